@@ -1,0 +1,5 @@
+pub mod Tests
+pub mod Tables
+pub mod Allowed
+pub mod Codec
+pub mod Count

@@ -1,0 +1,4 @@
+pub mod Fields
+pub mod Kinds
+pub mod Codec
+pub mod Count

@@ -1,0 +1,222 @@
+// The 28 command words of VIRTIS-M, to and from words (document 01, "The words").
+pub mod kinds;
+
+use kinds::COVER;
+use kinds::KINDS;
+use kinds::MOST_STEPS;
+ghost use mathlib.Core.Path.{_≡_};
+ghost use Rattle.words.specs.Kinds.{allowed};
+ghost use Rattle.words.specs.Codec.{decodeOf, encodeOf};
+
+// The kind of each identifier; 28 where no kind has it.
+const KIND_OF: [u8; 64] = [
+    0, // 00 NOP
+    28, // 01
+    11, // 02 IR EXPO
+    28, // 03
+    27, // 04 COVER
+    28, // 05
+    16, // 06 CCD DELAY
+    28, // 07
+    22, // 08 SIN M
+    28, // 09
+    12, // 0A WIN X1
+    28, // 0B
+    7, // 0C VDETCOM L
+    28, // 0D
+    28, // 0E
+    28, // 0F
+    2, // 10 HK
+    28, // 11
+    21, // 12 ANNEALING
+    28, // 13
+    26, // 14 SWITCH
+    28, // 15
+    18, // 16 CCD LAMP
+    28, // 17
+    24, // 18 COS M
+    28, // 19
+    14, // 1A WIN X2
+    28, // 1B
+    9, // 1C VDETADJ L
+    28, // 1D
+    28, // 1E
+    28, // 1F
+    1, // 20 START
+    28, // 21
+    19, // 22 IR LAMP
+    28, // 23
+    5, // 24 IR WIN MODE
+    28, // 25
+    17, // 26 CCD EXPO
+    28, // 27
+    23, // 28 SIN L
+    28, // 29
+    13, // 2A WIN Y1
+    28, // 2B
+    8, // 2C VDETADJ M
+    28, // 2D
+    28, // 2E
+    28, // 2F
+    3, // 30 STOP
+    28, // 31
+    20, // 32 SHUTTER
+    28, // 33
+    6, // 34 VDETCOM M
+    28, // 35
+    4, // 36 IR DETECTOR
+    28, // 37
+    25, // 38 COS L
+    28, // 39
+    15, // 3A WIN Y2
+    28, // 3B
+    10, // 3C IR DELAY
+    28, // 3D
+    28, // 3E
+    28, // 3F
+];
+
+// The least and the greatest data of each kind.
+const LEAST: [u16; 28] = [
+    0, // NOP
+    0, // START
+    0, // HK
+    0, // STOP
+    0, // IR DETECTOR
+    0, // IR WIN MODE
+    0, // VDETCOM M
+    0, // VDETCOM L
+    0, // VDETADJ M
+    0, // VDETADJ L
+    0, // IR DELAY
+    0, // IR EXPO
+    0, // WIN X1
+    0, // WIN Y1
+    0, // WIN X2
+    0, // WIN Y2
+    5, // CCD DELAY
+    0, // CCD EXPO
+    0, // CCD LAMP
+    0, // IR LAMP
+    0, // SHUTTER
+    0, // ANNEALING
+    0, // SIN M
+    0, // SIN L
+    0, // COS M
+    0, // COS L
+    0, // SWITCH
+    0, // COVER
+];
+
+const GREATEST: [u16; 28] = [
+    0x0, // NOP
+    0x0, // START
+    0x0, // HK
+    0x0, // STOP
+    0x1, // IR DETECTOR
+    0x1, // IR WIN MODE
+    0xF, // VDETCOM M
+    0xFF, // VDETCOM L
+    0xF, // VDETADJ M
+    0xFF, // VDETADJ L
+    0x3FF, // IR DELAY
+    0x3FF, // IR EXPO
+    0x3FF, // WIN X1
+    0x1FF, // WIN Y1
+    0x3FF, // WIN X2
+    0x1FF, // WIN Y2
+    0x3FF, // CCD DELAY
+    0x3FF, // CCD EXPO
+    0x7, // CCD LAMP
+    0x1F, // IR LAMP
+    0x1F, // SHUTTER
+    0x7F, // ANNEALING
+    0x1F, // SIN M
+    0xFF, // SIN L
+    0xF, // COS M
+    0xFF, // COS L
+    0x1, // SWITCH
+    0x3FF, // COVER
+];
+
+// The identifier of each kind.
+const IDENTIFIER: [u16; 28] = [
+    0x00, // NOP
+    0x20, // START
+    0x10, // HK
+    0x30, // STOP
+    0x36, // IR DETECTOR
+    0x24, // IR WIN MODE
+    0x34, // VDETCOM M
+    0x0C, // VDETCOM L
+    0x2C, // VDETADJ M
+    0x1C, // VDETADJ L
+    0x3C, // IR DELAY
+    0x02, // IR EXPO
+    0x0A, // WIN X1
+    0x2A, // WIN Y1
+    0x1A, // WIN X2
+    0x3A, // WIN Y2
+    0x06, // CCD DELAY
+    0x26, // CCD EXPO
+    0x16, // CCD LAMP
+    0x22, // IR LAMP
+    0x32, // SHUTTER
+    0x12, // ANNEALING
+    0x08, // SIN M
+    0x28, // SIN L
+    0x18, // COS M
+    0x38, // COS L
+    0x14, // SWITCH
+    0x04, // COVER
+];
+
+// What a word means.
+pub enum Decoded {
+    Word { kind: u8, bits: u16 },
+    Unknown,
+    OutOfRange { kind: u8 },
+}
+
+// The word of a kind and its data.
+pub enum Encoded {
+    Made(u16),
+    Refused,
+}
+
+// Whether a word of this kind may hold these data. A number that is no kind allows none.
+pub fn allows(kind: u8, bits: u16) -> bool
+    ensures { λ r. ⌜ r ≡ allowed kind bits ⌝ }
+{
+    if KINDS <= kind {
+        return false;
+    }
+    let k = kind as usize;
+    let steps = (kind != COVER) | (bits % 128 <= MOST_STEPS);
+    (LEAST[k] <= bits) & (bits <= GREATEST[k]) & steps
+}
+
+pub fn decode(word: u16) -> Decoded
+    ensures { λ r. ⌜ r ≡ decodeOf word ⌝ }
+{
+    let kind = KIND_OF[(word / 1024) as usize];
+    if KINDS <= kind {
+        return Decoded::Unknown;
+    }
+    let bits = word % 1024;
+    if allows(kind, bits) {
+        Decoded::Word { kind, bits }
+    } else {
+        Decoded::OutOfRange { kind }
+    }
+}
+
+pub fn encode(kind: u8, bits: u16) -> Encoded
+    ensures { λ r. ⌜ r ≡ encodeOf kind bits ⌝ }
+{
+    if allows(kind, bits) {
+        Encoded::Made(IDENTIFIER[kind as usize] * 1024 + bits)
+    } else {
+        Encoded::Refused
+    }
+}
