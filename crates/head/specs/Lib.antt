@@ -1,0 +1,9 @@
+pub mod Limits
+pub mod State
+pub mod Range
+pub mod Grid
+pub mod Flags
+pub mod Apply
+pub mod Word
+pub mod Tick
+pub mod Numbers

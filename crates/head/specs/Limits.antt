@@ -1,0 +1,38 @@
+-- Document 01, "The head": the numbers of ticks that time the head, and its limits. A tick is 10 ms.
+-- Assumes nothing.
+use Prim.Native.Nat.{ℕ, _+_, _*_, max}
+use mathlib.Core.Bool.{cond}
+use lib.Dec.{eqb}
+use Rattle.head.specs.declared.state.Settings.{Settings}
+
+-- COS L in turn, and SWITCH on, start 30 ticks of mirror motion.
+abbrev pub mirrorTicks : ℕ
+mirrorTicks = 30
+
+-- COVER with n steps starts 25 n ticks of cover motion.
+abbrev pub coverStepTicks : ℕ
+coverStepTicks = 25
+
+-- HK keeps the head busy 3 ticks.
+abbrev pub hkTicks : ℕ
+hkTicks = 3
+
+-- The ticks of one step of a delay or an exposure.
+abbrev pub stepTicks : ℕ
+stepTicks = 2
+
+abbrev pub ccdReadout : ℕ
+ccdReadout = 145
+
+-- R: 140 full, 60 reduced.
+unfoldable pub readoutOf : ℕ → ℕ
+readoutOf mode = cond (eqb mode 0) 140 60
+
+-- Length of an acquisition in ticks; the 1 because the repetition must be strictly longer.
+unfoldable pub lengthOf : Settings → ℕ
+lengthOf s =
+    1 + max (stepTicks * (s .ccddelay + s .ccdexpo) + ccdReadout) (stepTicks * (s .irdelay + s .irexpo) + readoutOf (s .mode))
+
+-- It lies in 156..4238.
+abbrev pub longest : ℕ
+longest = 4238

@@ -1,0 +1,4 @@
+// A model of the PEM-M head: a state that takes words and ticks (document 01, "The head").
+pub mod state;
+pub mod tick;
+pub mod word;

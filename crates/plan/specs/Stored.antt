@@ -1,0 +1,72 @@
+-- Document 01, "Plans": a stored plan, read into its orders or refused with a number and a byte place.
+-- Assumes nothing.
+use Prim.Native.Nat.{ℕ, zero, suc, _+_, _*_}
+use mathlib.Core.Bool.{Bool, true, false, cond, not, _&&_, _||_}
+use mathlib.Core.List.{List, [], _∷_}
+use lib.Dec.{leb, ltb, eqb}
+use lib.ListN.{length, getD}
+use Rattle.plan.specs.Codes.{rowOf, rows, known, lengthOf, fieldsFit}
+use Rattle.plan.specs.declared.order.Order.{Order}
+
+pub data Plan : Type 0 where
+  orders : List Order → Plan
+  refused : ℕ → ℕ → Plan
+
+-- Big-endian throughout.
+abbrev pub byteAt : List ℕ → ℕ → ℕ
+byteAt bs i = getD bs i 0
+
+-- The ith field of an order whose fields start at a place: one byte or two, by the code's row; 0 where the code has fewer.
+unfoldable pub fieldAt : List ℕ → ℕ → ℕ → ℕ → ℕ
+unfolding rows
+fieldAt bs at code i =
+    cond (ltb i (length (rowOf code .fields)))
+    (cond (eqb (rowOf code .width) 2) (byteAt bs (at + 2 * i) * 256 + byteAt bs (at + 2 * i + 1)) (byteAt bs (at + i)))
+    0
+
+-- The order whose length byte is at a place.
+unfoldable pub orderAt : List ℕ → ℕ → Order
+orderAt bs at =
+    let code = byteAt bs (at + 1) in
+    record {
+      code = code;
+      a = fieldAt bs (at + 2) code 0;
+      b = fieldAt bs (at + 2) code 1;
+      c = fieldAt bs (at + 2) code 2;
+      d = fieldAt bs (at + 2) code 3;
+    }
+
+-- What is wrong with the order at a place, 0 for nothing: 5 order length 0 or past the end, 6 code not 1-17, 7 order length not that
+-- of its code, 8 a field out of range.
+unfoldable pub faultAt : List ℕ → ℕ → ℕ
+faultAt bs at =
+    let size = byteAt bs at in
+    let code = byteAt bs (at + 1) in
+    cond (eqb size 0 || ltb (length bs) (at + 1 + size)) 5
+    (cond (not (known code)) 6
+    (cond (not (eqb size (lengthOf code))) 7
+    (cond (not (fieldsFit (orderAt bs at))) 8 0)))
+
+abbrev pub before : Order → Plan → Plan
+before o (orders os) = orders (o ∷ os)
+before o (refused n p) = refused n p
+
+-- The orders from a place on, of which so many may still begin: 9 where one more does. The first faulty order decides.
+unfoldable pub ordersFrom : ℕ → List ℕ → ℕ → Plan
+ordersFrom zero bs at = cond (ltb at (length bs)) (refused 9 at) (orders [])
+ordersFrom (suc n) bs at =
+    let rest = ordersFrom n bs (at + 1 + byteAt bs at) in
+    cond (ltb at (length bs))
+    (cond (eqb (faultAt bs at) 0) (before (orderAt bs at) rest) (refused (faultAt bs at) at))
+    (orders [])
+
+abbrev pub mostOrders : ℕ
+mostOrders = 64
+
+-- 2 fewer than 3 bytes, 3 version not 1, 4 bytes after the third are not as many as the length says; then the orders.
+unfoldable pub planOf : List ℕ → Plan
+planOf bs =
+    cond (ltb (length bs) 3) (refused 2 0)
+    (cond (not (eqb (byteAt bs 0) 1)) (refused 3 0)
+    (cond (not (eqb (length bs) (3 + (byteAt bs 1 * 256 + byteAt bs 2)))) (refused 4 0)
+    (ordersFrom mostOrders bs 3)))

@@ -1,0 +1,2 @@
+// Stored plans: their orders, read from bytes (document 01, "Plans").
+pub mod order;

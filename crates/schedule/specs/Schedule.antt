@@ -1,0 +1,52 @@
+-- Document 01, "Plans": the words of a plan with their ticks, and its end.
+-- Assumes nothing.
+use Prim.Native.Nat.{ℕ, _+_, _<_}
+use mathlib.Core.Path.{_≡_}
+use mathlib.Core.Bool.{Bool, true, false, cond}
+use mathlib.Core.List.{List, [], _∷_}
+use lib.Dec.{eqb}
+use Rattle.head.specs.Limits.{lengthOf, hkTicks}
+use Rattle.head.specs.Word.{answerOf}
+use Rattle.head.specs.Tick.{ticksOf}
+use Rattle.head.specs.declared.state.Head.{Head}
+use Rattle.plan.specs.Words.{Item, send, pause}
+use Rattle.schedule.specs.Earliest.{startWord, hkWord, ready, delayOf}
+
+pub record Timed : Type 0 where
+  pub tick : ℕ
+  pub word : ℕ
+
+-- The head when a word goes: after the ticks that pass before it.
+unfoldable pub readied : Head → ℕ → Head
+readied s w = ticksOf (delayOf s w) s
+
+-- From a word's tick to the clock after it: 1, after START the length of the acquisition, after HK 3.
+unfoldable pub spanOf : Head → ℕ → ℕ
+spanOf s w = cond (eqb w startWord) (lengthOf (s .settings)) (cond (eqb w hkWord) hkTicks 1)
+
+-- The head at the clock after a word.
+unfoldable pub sent : Head → ℕ → Head
+sent s w = ticksOf (spanOf (readied s w) w) (answerOf (readied s w) w .head)
+
+pub record Schedule : Type 0 where
+  pub list : List Timed
+  pub end : ℕ
+
+abbrev pub following : ℕ → ℕ → Schedule → Schedule
+following t w r = record { list = record { tick = t; word = w } ∷ r .list; end = r .end }
+
+-- The head is as it is at the clock t.
+unfoldable pub scheduleFrom : Head → ℕ → List Item → Schedule
+scheduleFrom s t [] = record { list = []; end = t }
+scheduleFrom s t (send w ∷ is) =
+    following (t + delayOf s w) w (scheduleFrom (sent s w) (t + delayOf s w + spanOf (readied s w) w) is)
+scheduleFrom s t (pause n ∷ is) = scheduleFrom (ticksOf n s) (t + n) is
+
+-- Demand 2: every word goes at the earliest tick. At the word's tick it may go, and at no tick from the clock up to it.
+abbrev pub Earliest : Head → List Item → Type 0
+Earliest s [] = Unit {0}
+Earliest s (send w ∷ is) =
+    (ready (readied s w) w ≡ true)
+    × ((n : ℕ) → n < delayOf s w → ready (ticksOf n s) w ≡ false)
+    × Earliest (sent s w) is
+Earliest s (pause n ∷ is) = Earliest (ticksOf n s) is
