@@ -1,4 +1,7 @@
 // A model of the PEM-M head: a state that takes words and ticks (document 01, "The head").
+pub mod flags;
+pub mod grid;
+pub mod range;
 pub mod state;
 pub mod tick;
 pub mod word;

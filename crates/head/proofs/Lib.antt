@@ -1,0 +1,2 @@
+pub mod GridRule
+pub mod Places
