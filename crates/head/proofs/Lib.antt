@@ -1,2 +1,3 @@
 pub mod GridRule
 pub mod Places
+pub mod Bounds

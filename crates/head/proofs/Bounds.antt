@@ -1,0 +1,252 @@
+-- A state is in range exactly when its numbers lie within these bounds.
+-- Assumes nothing.
+use mathlib.Core.Path.{_≡_, refl, sym, _∙_}
+use mathlib.Core.Bool.{Bool, true, false, cond, not, _&&_, _||_, false≢true}
+use mathlib.Core.List.{List, [], _∷_}
+use Prim.Native.Nat.{ℕ, zero, suc, _+_, _<_, _≤_}
+use native.Mathlib.Omega.{arith}
+use borrow.Author.Tests.{leb-true, leb-false, le-leb, lt-leb, eqb-true, eq-eqb}
+use lib.Dec.{leb, eqb, leb·zero}
+use Rattle.words.specs.Kinds as kind
+use Rattle.words.specs.Fields.{steps}
+use Rattle.words.specs.Kinds.{rows, least, greatest, allowed, mostSteps}
+use Rattle.words.proofs.Tests.{and-left, and-right}
+use Rattle.head.specs.Limits.{lengthOf, readoutOf}
+use Rattle.head.specs.Range.{all, registerTests, latchTests, motionTests, begunTests, place, workInRange, inRange}
+use Rattle.head.specs.declared.state.Settings.{Settings}
+use Rattle.head.specs.declared.state.Latches.{Latches}
+use Rattle.head.specs.declared.state.Motion.{Motion}
+use Rattle.head.specs.declared.state.Begun.{Begun}
+use Rattle.head.specs.declared.state.Task.{Task}
+use Rattle.head.specs.declared.state.Task.the-variants.{Idle, Acquisition, Housekeeping}
+use Rattle.head.specs.declared.state.Head.{Head}
+
+-- each test of a list holds
+abbrev pub Each : List Bool → Type 0
+Each [] = Unit {0}
+Each (b ∷ bs) = (b ≡ true) × Each bs
+
+both : (a b : Bool) → a ≡ true → b ≡ true → (a && b) ≡ true
+both a b p q = rw (p, q)
+
+first : (a : Bool) (bs : List Bool) → all a bs ≡ true → a ≡ true
+unfolding all
+first a [] h = h
+first a (b ∷ bs) h = and-left a b (first (a && b) bs h)
+
+each-from : (a : Bool) (bs : List Bool) → all a bs ≡ true → Each bs
+unfolding all
+each-from a [] h = tt
+each-from a (b ∷ bs) h = (and-right a b (first (a && b) bs h), each-from (a && b) bs h)
+
+pub each : (bs : List Bool) → all true bs ≡ true → Each bs
+each bs h = each-from true bs h
+
+all-from : (a : Bool) (bs : List Bool) → a ≡ true → Each bs → all a bs ≡ true
+unfolding all
+all-from a [] p h = p
+all-from a (b ∷ bs) p h = all-from (a && b) bs (both a b p (h .0)) (h .1)
+
+pub all-of : (bs : List Bool) → Each bs → all true bs ≡ true
+all-of bs h = all-from true bs refl h
+
+pub record RegisterBounds (r : Settings) : Type 0 where
+  pub detector : r .detector ≤ 1
+  pub mode : r .mode ≤ 1
+  pub vdetcom : r .vdetcom ≤ 4095
+  pub vdetadj : r .vdetadj ≤ 4095
+  pub irdelay : r .irdelay ≤ 1023
+  pub irexpo : r .irexpo ≤ 1023
+  pub leastCcddelay : 5 ≤ r .ccddelay
+  pub ccddelay : r .ccddelay ≤ 1023
+  pub ccdexpo : r .ccdexpo ≤ 1023
+  pub x1 : r .x1 ≤ 1023
+  pub y1 : r .y1 ≤ 511
+  pub x2 : r .x2 ≤ 1023
+  pub y2 : r .y2 ≤ 511
+  pub ccdlamp : r .ccdlamp ≤ 7
+  pub irlamp : r .irlamp ≤ 31
+  pub shutter : r .shutter ≤ 31
+  pub annealing : r .annealing ≤ 127
+  pub sine : r .sine ≤ 8191
+  pub cosine : r .cosine ≤ 4095
+  pub switch : r .switch ≤ 1
+  pub direction : r .direction ≤ 1
+
+pub registers : (r : Settings) → all true (registerTests r) ≡ true → RegisterBounds r
+unfolding registerTests greatest least rows
+registers r h = let e = each (registerTests r) h in omega (arith, leb-true)
+
+pub registers-back : (r : Settings) → RegisterBounds r → all true (registerTests r) ≡ true
+unfolding registerTests greatest least rows
+registers-back r h = all-of (registerTests r) (omega (arith, le-leb))
+
+pub record LatchBounds (l : Latches) : Type 0 where
+  pub vdetcom : l .vdetcom ≤ 15
+  pub vdetadj : l .vdetadj ≤ 15
+
+pub latched : (l : Latches) → all true (latchTests l) ≡ true → LatchBounds l
+unfolding latchTests greatest rows
+latched l h = let e = each (latchTests l) h in omega (arith, leb-true)
+
+pub latched-back : (l : Latches) → LatchBounds l → all true (latchTests l) ≡ true
+unfolding latchTests greatest rows
+latched-back l h = all-of (latchTests l) (omega (arith, le-leb))
+
+pub record MotionBounds (m : Motion) : Type 0 where
+  pub mirror : m .mirror ≤ 30
+  pub cover : m .cover ≤ 2025
+
+pub motions : (m : Motion) → all true (motionTests m) ≡ true → MotionBounds m
+unfolding motionTests
+motions m h = let e = each (motionTests m) h in omega (arith, leb-true)
+
+pub motions-back : (m : Motion) → MotionBounds m → all true (motionTests m) ≡ true
+unfolding motionTests
+motions-back m h = all-of (motionTests m) (omega (arith, le-leb))
+
+-- allowed data are at most the greatest of their kind
+pub allowed-most : (k d : ℕ) → allowed k d ≡ true → d ≤ greatest k
+unfolding allowed
+allowed-most k d h =
+    let a = leb (least k) d in
+    let b = leb d (greatest k) in
+    let c = not (eqb k kind.cover) || leb (steps d) mostSteps in
+    leb-true d (greatest k) (and-right a b (and-left (a && b) c h))
+
+-- a place of a begun set, of a kind whose data start at 0
+module _ (count n k v : ℕ) where
+  pub place-most : place count n k v ≡ true → v ≤ greatest k
+  unfolding place
+  place-most h = go (leb n count) refl
+    where
+      go : (b : Bool) → leb n count ≡ b → v ≤ greatest k
+      go true e = allowed-most k v (rw e at h)
+      go false e = let z = eqb-true v 0 (rw e at h) in omega arith
+
+  pub place-empty : place count n k v ≡ true → count < n → v ≡ 0
+  unfolding place
+  place-empty h l = eqb-true v 0 (rw (lt-leb n count l) at h)
+
+  pub place-of : least k ≡ 0 → eqb k kind.cover ≡ false → v ≤ greatest k → (count < n → v ≡ 0) → place count n k v ≡ true
+  unfolding place allowed
+  place-of z u m empty = go (leb n count) refl
+    where
+      go : (b : Bool) → leb n count ≡ b → place count n k v ≡ true
+      go true e = rw (e, z, u, leb·zero v, le-leb v (greatest k) m)
+      go false e = rw (e, empty (leb-false n count e))
+
+pub record BegunBounds (g : Begun) : Type 0 where
+  pub count : g .count ≤ 3
+  pub sinm : g .sinm ≤ 31
+  pub sinl : g .sinl ≤ 255
+  pub cosm : g .cosm ≤ 15
+  pub noSinm : g .count < 1 → g .sinm ≡ 0
+  pub noSinl : g .count < 2 → g .sinl ≡ 0
+  pub noCosm : g .count < 3 → g .cosm ≡ 0
+
+pub begun : (g : Begun) → all true (begunTests g) ≡ true → BegunBounds g
+unfolding begunTests greatest rows
+begun g h =
+    let e = each (begunTests g) h in
+    record {
+      count = omega (arith, leb-true);
+      sinm = place-most (g .count) 1 kind.sinM (g .sinm) (e .1 .0);
+      sinl = place-most (g .count) 2 kind.sinL (g .sinl) (e .1 .1 .0);
+      cosm = place-most (g .count) 3 kind.cosM (g .cosm) (e .1 .1 .1 .0);
+      noSinm = place-empty (g .count) 1 kind.sinM (g .sinm) (e .1 .0);
+      noSinl = place-empty (g .count) 2 kind.sinL (g .sinl) (e .1 .1 .0);
+      noCosm = place-empty (g .count) 3 kind.cosM (g .cosm) (e .1 .1 .1 .0);
+    }
+
+pub begun-back : (g : Begun) → BegunBounds g → all true (begunTests g) ≡ true
+unfolding begunTests greatest least rows
+begun-back g h =
+    all-of (begunTests g) (
+      le-leb (g .count) 3 (h .count),
+      (
+        place-of (g .count) 1 kind.sinM (g .sinm) refl refl (h .sinm) (h .noSinm),
+        (
+          place-of (g .count) 2 kind.sinL (g .sinl) refl refl (h .sinl) (h .noSinl),
+          (place-of (g .count) 3 kind.cosM (g .cosm) refl refl (h .cosm) (h .noCosm), tt),
+        ),
+      ),
+    )
+
+-- what the head is doing, and for how many ticks yet
+abbrev pub Working : Task → ℕ → Type 0
+Working Idle n = n ≡ 0
+Working Acquisition n = (1 ≤ n) × (n ≤ 4238)
+Working Housekeeping n = (1 ≤ n) × (n ≤ 3)
+
+pub working : (t : Task) (n : ℕ) → workInRange t n ≡ true → Working t n
+unfolding workInRange
+working Idle n h = eqb-true n 0 h
+working Acquisition n h = (leb-true 1 n (and-left (leb 1 n) (leb n 4238) h), leb-true n 4238 (and-right (leb 1 n) (leb n 4238) h))
+working Housekeeping n h = (leb-true 1 n (and-left (leb 1 n) (leb n 3) h), leb-true n 3 (and-right (leb 1 n) (leb n 3) h))
+
+pub working-back : (t : Task) (n : ℕ) → Working t n → workInRange t n ≡ true
+unfolding workInRange
+working-back Idle n h = eq-eqb n 0 h
+working-back Acquisition n h = rw (le-leb 1 n (h .0), le-leb n 4238 (h .1))
+working-back Housekeeping n h = rw (le-leb 1 n (h .0), le-leb n 3 (h .1))
+
+working-most : (t : Task) (n : ℕ) → Working t n → n ≤ 4238
+working-most Idle n h = omega arith
+working-most Acquisition n h = omega arith
+working-most Housekeeping n h = omega arith
+
+pub record Bounds (s : Head) : Type 0 where
+  pub settings : RegisterBounds (s .settings)
+  pub latches : LatchBounds (s .latches)
+  pub motion : MotionBounds (s .motion)
+  pub begun : BegunBounds (s .begun)
+  pub work : Working (s .work .task) (s .work .busy)
+  pub busy : s .work .busy ≤ 4238
+
+module _ (s : Head) where
+  pub bounds : inRange s ≡ true → Bounds s
+  unfolding inRange
+  bounds h =
+      let a = all true (registerTests (s .settings)) in
+      let b = all true (latchTests (s .latches)) in
+      let c = all true (motionTests (s .motion)) in
+      let d = all true (begunTests (s .begun)) in
+      let e = workInRange (s .work .task) (s .work .busy) in
+      let abcd = and-left (a && b && c && d) e h in
+      let abc = and-left (a && b && c) d abcd in
+      let ab = and-left (a && b) c abc in
+      let w = working (s .work .task) (s .work .busy) (and-right (a && b && c && d) e h) in
+      record {
+        settings = registers (s .settings) (and-left a b ab);
+        latches = latched (s .latches) (and-right a b ab);
+        motion = motions (s .motion) (and-right (a && b) c abc);
+        begun = begun (s .begun) (and-right (a && b && c) d abcd);
+        work = w;
+        busy = working-most (s .work .task) (s .work .busy) w;
+      }
+
+  pub in-range : Bounds s → inRange s ≡ true
+  unfolding inRange
+  in-range h =
+      rw (
+        registers-back (s .settings) (h .settings),
+        latched-back (s .latches) (h .latches),
+        motions-back (s .motion) (h .motion),
+        begun-back (s .begun) (h .begun),
+      )
+      (working-back (s .work .task) (s .work .busy) (h .work))
+
+-- an acquisition's length lies in 156..4238
+module _ (r : Settings) where
+  pub readout-bounds : (60 ≤ readoutOf (r .mode)) × (readoutOf (r .mode) ≤ 140)
+  unfolding readoutOf
+  readout-bounds = go (eqb (r .mode) 0)
+    where
+      go : (b : Bool) → (60 ≤ cond b 140 60) × (cond b 140 60 ≤ 140)
+      go true = omega arith
+      go false = omega arith
+
+  pub length-bounds : RegisterBounds r → (156 ≤ lengthOf r) × (lengthOf r ≤ 4238)
+  unfolding lengthOf
+  length-bounds h = let b = readout-bounds in omega arith
