@@ -1,9 +1,9 @@
 -- A state is in range exactly when its numbers lie within these bounds.
 -- Assumes nothing.
-use mathlib.Core.Path.{_≡_, refl, sym, _∙_}
-use mathlib.Core.Bool.{Bool, true, false, cond, not, _&&_, _||_, false≢true}
+use mathlib.Core.Path.{_≡_, refl}
+use mathlib.Core.Bool.{Bool, true, false, cond, not, _&&_, _||_}
 use mathlib.Core.List.{List, [], _∷_}
-use Prim.Native.Nat.{ℕ, zero, suc, _+_, _<_, _≤_}
+use Prim.Native.Nat.{ℕ, _<_, _≤_}
 use native.Mathlib.Omega.{arith}
 use borrow.Author.Tests.{leb-true, leb-false, le-leb, lt-leb, eqb-true, eq-eqb}
 use lib.Dec.{leb, eqb, leb·zero}
@@ -105,14 +105,22 @@ pub motions-back : (m : Motion) → MotionBounds m → all true (motionTests m) 
 unfolding motionTests
 motions-back m h = all-of (motionTests m) (omega (arith, le-leb))
 
--- allowed data are at most the greatest of their kind
-pub allowed-most : (k d : ℕ) → allowed k d ≡ true → d ≤ greatest k
+-- allowed data lie from the least to the greatest of their kind, and a cover word's steps are at most 81
+module _ (k d : ℕ) (h : allowed k d ≡ true) where
+  within : (leb (least k) d && leb d (greatest k)) ≡ true
+  unfolding allowed
+  within = and-left (leb (least k) d && leb d (greatest k)) (not (eqb k kind.cover) || leb (steps d) mostSteps) h
+
+  pub allowed-least : least k ≤ d
+  allowed-least = leb-true (least k) d (and-left (leb (least k) d) (leb d (greatest k)) within)
+
+  pub allowed-most : d ≤ greatest k
+  allowed-most = leb-true d (greatest k) (and-right (leb (least k) d) (leb d (greatest k)) within)
+
+pub allowed-steps : (d : ℕ) → allowed kind.cover d ≡ true → steps d ≤ mostSteps
 unfolding allowed
-allowed-most k d h =
-    let a = leb (least k) d in
-    let b = leb d (greatest k) in
-    let c = not (eqb k kind.cover) || leb (steps d) mostSteps in
-    leb-true d (greatest k) (and-right a b (and-left (a && b) c h))
+allowed-steps d h =
+    leb-true (steps d) mostSteps (and-right (leb (least kind.cover) d && leb d (greatest kind.cover)) (leb (steps d) mostSteps) h)
 
 -- a place of a begun set, of a kind whose data start at 0
 module _ (count n k v : ℕ) where
@@ -191,7 +199,7 @@ working-back Idle n h = eq-eqb n 0 h
 working-back Acquisition n h = rw (le-leb 1 n (h .0), le-leb n 4238 (h .1))
 working-back Housekeeping n h = rw (le-leb 1 n (h .0), le-leb n 3 (h .1))
 
-working-most : (t : Task) (n : ℕ) → Working t n → n ≤ 4238
+pub working-most : (t : Task) (n : ℕ) → Working t n → n ≤ 4238
 working-most Idle n h = omega arith
 working-most Acquisition n h = omega arith
 working-most Housekeeping n h = omega arith

@@ -1,3 +1,5 @@
 pub mod GridRule
 pub mod Places
 pub mod Bounds
+pub mod Answers
+pub mod Keep
