@@ -3,3 +3,5 @@ pub mod Places
 pub mod Bounds
 pub mod Answers
 pub mod Keep
+pub mod Ignored
+pub mod Ticks

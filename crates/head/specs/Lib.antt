@@ -6,4 +6,5 @@ pub mod Flags
 pub mod Apply
 pub mod Word
 pub mod Tick
+pub mod Ticks
 pub mod Numbers
