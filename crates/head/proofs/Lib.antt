@@ -5,3 +5,4 @@ pub mod Answers
 pub mod Keep
 pub mod Ignored
 pub mod Ticks
+pub mod Findings

@@ -78,6 +78,7 @@ begunAfter s k b =
     (cond (eqb k kind.cosL) noneBegun g)))
 
 unfoldable pub after : Head → ℕ → ℕ → Head
+unfolding settingsAfter latchesAfter workAfter motionAfter begunAfter
 after s k b =
     record {
       settings = settingsAfter s k b;

@@ -5,6 +5,7 @@ pub mod Grid
 pub mod Flags
 pub mod Apply
 pub mod Word
+pub mod ByGrid
 pub mod Tick
 pub mod Ticks
 pub mod Numbers

@@ -1,4 +1,5 @@
 // A model of the PEM-M head: a state that takes words and ticks (document 01, "The head").
+pub mod apply;
 pub mod flags;
 pub mod grid;
 pub mod range;

@@ -1,7 +1,13 @@
 // A tick of 10 ms.
 use crate::state::Flags;
 use crate::state::Head;
+use crate::state::Motion;
 use crate::state::Task;
+use crate::state::Work;
+ghost use mathlib.Core.Path.{_≡_};
+ghost use Prim.Native.Nat.{_-_};
+ghost use Rattle.head.specs.State.{noFlags};
+ghost use Rattle.head.specs.Tick.{motionDown, passed, tickOf};
 
 pub enum Due {
     Nothing,
@@ -14,4 +20,83 @@ pub enum Due {
 pub struct Ticked {
     pub head: Head,
     pub due: Due,
+}
+
+fn down(n: u16) -> u16
+    ensures { λ r. ⌜ r ≡ n - 1 ⌝ }
+{
+    if n == 0 { 0 } else { n - 1 }
+}
+
+impl Flags {
+    pub fn none() -> Flags
+        ensures { λ r. ⌜ r ≡ noFlags ⌝ }
+    {
+        Flags {
+            irtime: false,
+            irword: false,
+            scan: false,
+            vistime: false,
+            visword: false,
+        }
+    }
+}
+
+impl Motion {
+    // A tick's less of each.
+    pub fn lessened(self) -> Motion
+        ensures { λ r. ⌜ r ≡ motionDown self ⌝ }
+    {
+        Motion {
+            mirror: down(self.mirror),
+            cover: down(self.cover),
+        }
+    }
+}
+
+impl Head {
+    // A tick of a state in range.
+    fn ticked(mut self) -> Ticked
+        ensures { λ r. ⌜ r ≡ passed self ⌝ }
+    {
+        let motion = self.motion.lessened();
+        let before = self.work;
+        let task = before.task;
+        let busy = before.busy;
+        self.motion = motion;
+        if busy == 1 {
+            let flags = self.flags;
+            let work = Work {
+                task: Task::Idle,
+                busy: 0,
+            };
+            self.flags = Flags::none();
+            self.work = work;
+            return Ticked {
+                head: self,
+                due: Due::Blocks { ended: task, flags },
+            };
+        }
+        let work = Work {
+            task,
+            busy: down(busy),
+        };
+        self.work = work;
+        Ticked {
+            head: self,
+            due: Due::Nothing,
+        }
+    }
+
+    pub fn tick(self) -> Ticked
+        ensures { λ r. ⌜ r ≡ tickOf self ⌝ }
+    {
+        if self.in_range() {
+            return self.ticked();
+        }
+        Ticked {
+            head: self,
+            due: Due::Refused,
+        }
+    }
 }

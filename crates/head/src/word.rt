@@ -1,5 +1,25 @@
 // The head's answer to a word.
+use crate::grid;
+use crate::grid::BUSY;
+use crate::state::Begun;
+use crate::state::Flags;
 use crate::state::Head;
+use words::Decoded;
+use words::kinds::COS_L;
+use words::kinds::COVER;
+use words::kinds::HK;
+use words::kinds::SIN_M;
+use words::kinds::START;
+ghost use mathlib.Core.Path.{_≡_};
+ghost use mathlib.Core.Bool.{true, false};
+ghost use Prim.Native.Nat.{_<_};
+ghost use Rattle.head.specs.Apply.{actOf};
+ghost use Rattle.head.specs.ByGrid.{isWord, waiting, byGrid, byFinding};
+ghost use Rattle.head.specs.Range.{inRange};
+ghost use Rattle.head.specs.Flags.{mirrorWord};
+ghost use Rattle.words.specs.declared.Decoded.the-variants.{OutOfRange};
+ghost use Rattle.head.specs.State.{noneBegun};
+ghost use Rattle.head.specs.Word.{marked, outOfTurn, onDecoded, answerOf};
 
 pub enum Act {
     None,
@@ -30,4 +50,162 @@ pub enum Outcome {
 pub struct Answered {
     pub head: Head,
     pub outcome: Outcome,
+}
+
+// The act of a word that is taken.
+pub fn act_of(kind: u8, bits: u16) -> Act
+    ensures { λ r. ⌜ r ≡ actOf kind bits ⌝ }
+{
+    if kind == START {
+        return Act::Exposure;
+    }
+    if kind == HK {
+        return Act::Request;
+    }
+    if kind == COVER {
+        return Act::Cover(bits);
+    }
+    Act::None
+}
+
+// Whether this is a mirror word out of turn after so many words of a set.
+pub fn out_of_turn(count: u16, kind: u8) -> bool
+    ensures { λ r. ⌜ r ≡ outOfTurn count kind ⌝ }
+{
+    if kind <= SIN_M {
+        return false;
+    }
+    if COS_L < kind {
+        return false;
+    }
+    ((kind - SIN_M) as u16) != count
+}
+
+fn is_mirror(kind: u8) -> bool
+    ensures { λ r. ⌜ r ≡ mirrorWord kind ⌝ }
+{
+    (SIN_M <= kind) & (kind <= COS_L)
+}
+
+impl Begun {
+    pub fn none() -> Begun
+        ensures { λ r. ⌜ r ≡ noneBegun ⌝ }
+    {
+        Begun {
+            count: 0,
+            sinm: 0,
+            sinl: 0,
+            cosm: 0,
+        }
+    }
+}
+
+impl Head {
+    // The state with other flags.
+    fn flagged(mut self, flags: Flags) -> Head
+        ensures { λ r. ⌜ r ≡ marked self flags (self .begun) ⌝ }
+    {
+        self.flags = flags;
+        self
+    }
+
+    // The state with other flags and no mirror set begun.
+    fn dropped(mut self, flags: Flags) -> Head
+        ensures { λ r. ⌜ r ≡ marked self flags noneBegun ⌝ }
+    {
+        self.flags = flags;
+        self.begun = Begun::none();
+        self
+    }
+
+    // The answer to a word that is ignored in this phase.
+    fn kept_waiting(self, phase: usize) -> Answered
+        ensures { λ r. ⌜ r ≡ waiting self phase ⌝ }
+    {
+        let flags = self.flags;
+        if phase == BUSY {
+            return Answered {
+                head: self.flagged(flags.time_both()),
+                outcome: Outcome::Ignored(Cause::Busy),
+            };
+        }
+        Answered {
+            head: self.flagged(flags.time_ir()),
+            outcome: Outcome::Ignored(Cause::CoverMoving),
+        }
+    }
+
+    // The answer to a word that is out of range.
+    fn out_of_range(self, kind: u8) -> Answered
+        ensures { λ r. ⌜ r ≡ onDecoded self (OutOfRange kind) ⌝ }
+    {
+        let flags = self.flags.out_of_range(kind);
+        let outcome = Outcome::Ignored(Cause::Range);
+        if is_mirror(kind) {
+            return Answered {
+                head: self.dropped(flags),
+                outcome,
+            };
+        }
+        Answered {
+            head: self.flagged(flags),
+            outcome,
+        }
+    }
+
+    // The answer to a finding that is no word with allowed data.
+    fn no_word(self, found: Decoded) -> Answered
+        requires { ⌜ isWord found ≡ false ⌝ }
+        ensures { λ r. ⌜ r ≡ byFinding self found ⌝ }
+    {
+        let flags = self.flags;
+        if 0 < self.work.busy {
+            return self.kept_waiting(BUSY);
+        }
+        match found {
+            Decoded::OutOfRange { kind } => self.out_of_range(kind),
+            _ => Answered {
+                head: self.flagged(flags.word_both()),
+                outcome: Outcome::Ignored(Cause::UnknownWord),
+            },
+        }
+    }
+
+    // The answer to a word of a known kind with allowed data.
+    fn known_word(self, kind: u8, bits: u16) -> Answered
+        requires { ⌜ kind < 28 ⌝ ∗ ⌜ bits < 1024 ⌝ ∗ ⌜ inRange self ≡ true ⌝ }
+        ensures { λ r. ⌜ r ≡ byGrid self kind bits ⌝ }
+    {
+        let phase = self.phase();
+        if !grid::applied(phase, kind) {
+            return self.kept_waiting(phase);
+        }
+        let flags = self.flags;
+        if out_of_turn(self.begun.count, kind) {
+            return Answered {
+                head: self.dropped(flags.scanned()),
+                outcome: Outcome::Ignored(Cause::Turn),
+            };
+        }
+        Answered {
+            head: self.applied(kind, bits),
+            outcome: Outcome::Taken(act_of(kind, bits)),
+        }
+    }
+
+    pub fn word(self, word: u16) -> Answered
+        ensures { λ r. ⌜ r ≡ answerOf self word ⌝ }
+    {
+        if !self.in_range() {
+            return Answered {
+                head: self,
+                outcome: Outcome::Ignored(Cause::State),
+            };
+        }
+        let found = words::decode(word);
+        let Decoded::Word { kind, bits } = found else {
+            return self.no_word(found);
+        };
+        self.known_word(kind, bits)
+    }
 }

@@ -1,0 +1,20 @@
+-- `head::state::Head::ir_times` meets its contract: each kind sets its register.
+-- Assumes nothing.
+use native.Mathlib.Omega.{arith}
+use mathlib.Core.Path.{_≡_}
+use Rattle.head.specs.Apply.{after}
+use Rattle.head.proofs.state.Head.ir_times.Statement.{statement}
+use Rattle.head.proofs.state.Head.ir_times.Tie as tie
+
+returns : tie.Need-returns
+unfolding after
+returns c = rw (c .before .if1 .taken)
+
+returns-2 : tie.Need-returns-2
+unfolding after
+returns-2 c =
+    let is : c .before .before .args .kind ≡ 11 = omega arith in
+    rw is
+
+pub ir-times-spec : {M : Type 1} → statement M
+ir-times-spec = tie.close (tie.spec returns returns-2)
