@@ -1,0 +1,54 @@
+-- Document 01, "Examples": the starred ones, a row for each result: what the definitions give, and what the paper says. Words are in
+-- hexadecimal, all else in decimal.
+-- Assumes nothing.
+use Prim.Native.Nat.{ℕ}
+use mathlib.Core.Bool.{Bool, true, _&&_}
+use mathlib.Core.List.{List, [], _∷_}
+use lib.Dec.{eqb}
+use Rattle.words.specs.Codec.{decodeOf, decodedNumber}
+use Rattle.head.specs.Limits.{lengthOf}
+use Rattle.head.specs.State.{powerOn}
+use Rattle.head.specs.Word.{answerOf}
+use Rattle.head.specs.Numbers.{outcomeNumber}
+use Rattle.head.specs.declared.state.Head.{Head}
+
+pub record Row : Type 0 where
+  pub got : ℕ
+  pub said : ℕ
+
+abbrev pub _gives_ : ℕ → ℕ → Row
+a gives b = record { got = a; said = b }
+
+infixl 15 _gives_
+-- Every row's two sides are the same number.
+unfoldable pub hold : List Row → Bool
+hold [] = true
+hold (r ∷ rs) = eqb (r .got) (r .said) && hold rs
+
+-- The head after words one after another, with no tick between them.
+unfoldable pub afterWords : Head → List ℕ → Head
+afterWords s [] = s
+afterWords s (w ∷ ws) = afterWords (answerOf s w .head) ws
+
+-- The number of the head's answer to a word at power-on: 0 is taken, a cover move gives its word.
+unfoldable pub answered : ℕ → ℕ
+answered w = outcomeNumber (answerOf powerOn w .outcome)
+
+unfoldable pub fromPowerOn : List Row
+unfolding afterWords
+fromPowerOn =
+    (afterWords powerOn (0xD009 ∷ []) .settings .vdetcom gives 2430)  -- D009 leaves VDETCOM at 2430
+    ∷ (afterWords powerOn (0xD009 ∷ 0x3088 ∷ []) .settings .vdetcom gives 2440)  -- then 3088 gives 2440
+    ∷ (answered 0x1804 gives 24)  -- 1804 is 24
+    ∷ (answered 0x1805 gives 0)  -- 1805 taken
+    ∷ (answered 0x1051 gives 0x1051)  -- 1051 taken
+    ∷ (answered 0x1052 gives 24)  -- 1052 is 24
+    ∷ (answered 0xA9FF gives 0)  -- A9FF taken
+    ∷ (answered 0x3800 gives 23)  -- 3800 is 23
+    ∷ (decodedNumber (decodeOf 0x3800) gives 23)
+    ∷ (answered 0x2010 gives 0)  -- 2010 starts a set
+    ∷ (afterWords powerOn (0x2010 ∷ []) .begun .count gives 1)
+    ∷ (afterWords powerOn (0x2010 ∷ []) .begun .sinm gives 16)  -- with minus zero
+    ∷ (lengthOf (powerOn .settings) gives 158)  -- power-on length 158
+    ∷ (lengthOf (afterWords powerOn (0xF00A ∷ 0x080A ∷ []) .settings) gives 181)  -- with IR delay 10 and expo 10, 181
+    ∷ []

@@ -1,0 +1,1 @@
+// The starred examples of document 01 are proved of the definitions: specs/Starred.antt is the table.
