@@ -108,22 +108,42 @@ rows =
 abbrev pub rowOf : ℕ → Row
 rowOf code = getD rows code (b [])
 
+-- The place of a code's row; what is no code has row 0.
+unfoldable pub placeOf : ℕ → ℕ
+placeOf code = cond (leb code 17) code 0
+
+-- How many fields a code has, and the bytes of each.
+unfoldable pub countOf : ℕ → ℕ
+unfolding rows
+countOf code = length (rowOf code .fields)
+
+unfoldable pub widthOf : ℕ → ℕ
+unfolding rows
+widthOf code = rowOf code .width
+
+-- The range of the ith field; a field that the code has not may hold anything.
+unfoldable pub rangeOf : ℕ → ℕ → Range
+unfolding rows
+rangeOf code i = getD (rowOf code .fields) i (0 to 65535)
+
 -- Codes are 1-17.
 unfoldable pub known : ℕ → Bool
 known code = leb 1 code && leb code 17
 
 -- What the order's length byte counts: the code and the fields.
 unfoldable pub lengthOf : ℕ → ℕ
-unfolding rows
-lengthOf code = 1 + rowOf code .width * length (rowOf code .fields)
+lengthOf code = 1 + widthOf code * countOf code
 
 abbrev pub fieldsOf : Order → List ℕ
 fieldsOf o = o .a ∷ o .b ∷ o .c ∷ o .d ∷ []
 
+abbrev pub holds : Range → ℕ → Bool
+holds r v = leb (r .least) v && leb v (r .greatest)
+
 unfoldable pub within : List Range → List ℕ → Bool
 within [] vs = true
 within (r ∷ rs) [] = false
-within (r ∷ rs) (v ∷ vs) = leb (r .least) v && leb v (r .greatest) && within rs vs
+within (r ∷ rs) (v ∷ vs) = holds r v && within rs vs
 
 -- X2 = X1 + 875. The sine, a two's complement w, is in -4095..4095.
 unfoldable pub related : Order → Bool
@@ -135,3 +155,7 @@ related o =
 unfoldable pub fieldsFit : Order → Bool
 unfolding rows
 fieldsFit o = within (rowOf (o .code) .fields) (fieldsOf o) && related o
+
+-- The code is known and every field is in range.
+unfoldable pub fit : Order → Bool
+fit o = known (o .code) && fieldsFit o

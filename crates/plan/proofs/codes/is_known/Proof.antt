@@ -1,0 +1,11 @@
+use mathlib.Core.Path.{refl}
+use Rattle.plan.specs.Codes.{known}
+use Rattle.plan.proofs.codes.is_known.Statement.{statement}
+use Rattle.plan.proofs.codes.is_known.Tie as tie
+
+returns : tie.Need-returns
+unfolding known
+returns c = refl
+
+pub is-known-spec : {M : Type 1} → statement M
+is-known-spec = tie.close (tie.spec returns)

@@ -1,0 +1,13 @@
+use borrow.Author.Needs.{needs}
+use Rattle.plan.proofs.Rows.{place-code, place-none}
+use Rattle.plan.proofs.codes.place_of.Statement.{statement}
+use Rattle.plan.proofs.codes.place_of.Tie as tie
+
+returns : tie.Need-returns
+returns c = search (needs, place-code)
+
+returns-2 : tie.Need-returns-2
+returns-2 c = search (needs, place-none)
+
+pub place-of-spec : {M : Type 1} → statement M
+place-of-spec = tie.close (tie.spec returns returns-2)
