@@ -1,2 +1,4 @@
 pub mod Rows
 pub mod Fit
+pub mod Bytes
+pub mod Judging

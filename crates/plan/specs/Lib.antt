@@ -1,4 +1,5 @@
 pub mod Codes
 pub mod Stored
+pub mod Judged
 pub mod Words
 pub mod Reading

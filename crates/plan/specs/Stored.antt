@@ -5,24 +5,24 @@ use mathlib.Core.Bool.{Bool, true, false, cond, not, _&&_, _||_}
 use mathlib.Core.List.{List, [], _∷_}
 use lib.Dec.{leb, ltb, eqb}
 use lib.ListN.{length, getD}
-use Rattle.plan.specs.Codes.{rowOf, rows, known, lengthOf, fieldsFit}
+use Rattle.plan.specs.Codes.{countOf, widthOf, known, lengthOf, fieldsFit}
 use Rattle.plan.specs.declared.order.Order.{Order}
 
 pub data Plan : Type 0 where
   orders : List Order → Plan
   refused : ℕ → ℕ → Plan
 
--- Big-endian throughout.
 abbrev pub byteAt : List ℕ → ℕ → ℕ
 byteAt bs i = getD bs i 0
 
+-- Big-endian throughout.
+abbrev pub pairAt : List ℕ → ℕ → ℕ
+pairAt bs i = byteAt bs i * 256 + byteAt bs (i + 1)
+
 -- The ith field of an order whose fields start at a place: one byte or two, by the code's row; 0 where the code has fewer.
 unfoldable pub fieldAt : List ℕ → ℕ → ℕ → ℕ → ℕ
-unfolding rows
 fieldAt bs at code i =
-    cond (ltb i (length (rowOf code .fields)))
-    (cond (eqb (rowOf code .width) 2) (byteAt bs (at + 2 * i) * 256 + byteAt bs (at + 2 * i + 1)) (byteAt bs (at + i)))
-    0
+    cond (ltb i (countOf code)) (cond (eqb (widthOf code) 2) (pairAt bs (at + 2 * i)) (byteAt bs (at + i))) 0
 
 -- The order whose length byte is at a place.
 unfoldable pub orderAt : List ℕ → ℕ → Order
@@ -68,5 +68,5 @@ unfoldable pub planOf : List ℕ → Plan
 planOf bs =
     cond (ltb (length bs) 3) (refused 2 0)
     (cond (not (eqb (byteAt bs 0) 1)) (refused 3 0)
-    (cond (not (eqb (length bs) (3 + (byteAt bs 1 * 256 + byteAt bs 2)))) (refused 4 0)
+    (cond (not (eqb (length bs) (3 + pairAt bs 1))) (refused 4 0)
     (ordersFrom mostOrders bs 3)))

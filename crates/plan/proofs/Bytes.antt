@@ -1,0 +1,74 @@
+-- How bytes are read into fields, orders and faults: one law for each way through the code.
+-- Assumes nothing.
+use mathlib.Core.Path.{_≡_, refl, sym, ap, _∙_}
+use mathlib.Core.Bool.{Bool, true, false, cond, not, _||_, or-true}
+use mathlib.Core.List.{List, [], _∷_}
+use Prim.Native.Nat.{ℕ, _+_, _*_, _<_, _≤_}
+use native.Mathlib.Omega.{arith}
+use borrow.Author.Tests.{eq-eqb, ne-eqb, lt-ltb, le-ltb}
+use lib.Dec.{eqb, ltb}
+use lib.ListN.{length, getD, List·getD-eq-default}
+use Rattle.plan.specs.Codes.{rows, countOf, widthOf, known, lengthOf, fieldsFit}
+use Rattle.plan.specs.Stored.{byteAt, pairAt, fieldAt, orderAt, faultAt}
+use Rattle.plan.specs.declared.order.Order.{Order}
+
+-- past the end there is 0
+pub byte-past : (bs : List ℕ) (i : ℕ) → length bs ≤ i → 0 ≡ byteAt bs i
+byte-past bs i h = sym (List·getD-eq-default bs 0 {n = i} h)
+
+-- the three ways to a field
+module _ (bs : List ℕ) (at code i count width r : ℕ) (is-count : count ≡ countOf code) where
+  pub field-none : count ≤ i → 0 ≡ fieldAt bs at code i
+  unfolding fieldAt
+  field-none h = rw (← is-count, le-ltb i count h)
+
+  module _ (has : i < count) (is-width : width ≡ widthOf code) where
+    pub field-two : width ≡ 2 → r ≡ pairAt bs (at + 2 * i) → r ≡ fieldAt bs at code i
+    unfolding fieldAt
+    field-two h is = rw (← is-count, lt-ltb i count has, ← is-width, eq-eqb width 2 h) is
+
+    pub field-one : (width ≡ 2 → ⊥) → r ≡ byteAt bs (at + i) → r ≡ fieldAt bs at code i
+    unfolding fieldAt
+    field-one h is = rw (← is-count, lt-ltb i count has, ← is-width, ne-eqb width 2 h) is
+
+-- past the end the order is all 0
+pub order-past : (bs : List ℕ) (at : ℕ) → length bs ≤ at → record { code = 0; a = 0; b = 0; c = 0; d = 0 } ≡ orderAt bs at
+unfolding orderAt fieldAt countOf rows
+order-past bs at h = rw (← byte-past bs (at + 1) (omega arith))
+
+-- the ways to a fault, and the one past them all
+pub fault-none : (bs : List ℕ) (at : ℕ) → length bs ≤ at → 5 ≡ faultAt bs at
+unfolding faultAt
+fault-none bs at h = rw (← byte-past bs at h)
+
+module _ (bs : List ℕ) (at size : ℕ) (is-size : size ≡ byteAt bs at) where
+  pub fault-empty : size ≡ 0 → 5 ≡ faultAt bs at
+  unfolding faultAt
+  fault-empty h = rw (← is-size, h)
+
+  pub fault-past : length bs < at + 1 + size → 5 ≡ faultAt bs at
+  unfolding faultAt
+  fault-past h = rw (← is-size, lt-ltb (length bs) (at + 1 + size) h, or-true (eqb size 0))
+
+  module _ (code : ℕ) (full : size ≡ 0 → ⊥) (ends : at + 1 + size ≤ length bs) (is-code : code ≡ byteAt bs (at + 1)) where
+    fault-later : cond (not (known code)) 6 (cond (not (eqb size (lengthOf code))) 7 (cond (not (fieldsFit (orderAt bs at))) 8 0)) ≡ faultAt bs at
+    unfolding faultAt
+    fault-later = rw (← is-size, ne-eqb size 0 full, le-ltb (length bs) (at + 1 + size) ends, ← is-code)
+
+    module _ (k : Bool) (is-known : k ≡ known code) where
+      pub fault-unknown : not k ≡ true → 6 ≡ faultAt bs at
+      fault-unknown h = rw (← is-known, h) at fault-later
+
+      module _ (known-code : not k ≡ false) (n : ℕ) (is-length : n ≡ lengthOf code) where
+        pub fault-length : (size ≡ n → ⊥) → 7 ≡ faultAt bs at
+        fault-length h = rw (← is-known, known-code, ← is-length, ne-eqb size n h) at fault-later
+
+        module _ (right : size ≡ n) (o : Order) (is-order : o ≡ orderAt bs at) (fits : Bool) (is-fits : fits ≡ fieldsFit o) where
+          fault-last : cond (not fits) 8 0 ≡ faultAt bs at
+          fault-last = rw (is-fits, is-order) (rw (← is-known, known-code, ← is-length, eq-eqb size n right) at fault-later)
+
+          pub fault-nothing : fits ≡ true → 0 ≡ faultAt bs at
+          fault-nothing h = rw h at fault-last
+
+          pub fault-field : fits ≡ false → 8 ≡ faultAt bs at
+          fault-field h = rw h at fault-last

@@ -1,0 +1,172 @@
+// Stored plans, read from bytes (document 01, "Plans").
+use crate::codes::count_of;
+use crate::codes::is_known;
+use crate::codes::length_of;
+use crate::codes::width_of;
+use crate::order::Order;
+ghost use mathlib.Core.Path.{_≡_};
+ghost use Prim.Native.Nat.{_+_, _<_, _^_};
+ghost use Rattle.plan.specs.Stored.{byteAt, pairAt, fieldAt, orderAt, faultAt, ordersFrom, mostOrders, planOf};
+ghost use Rattle.plan.specs.Judged.{judgedOf};
+
+// The version of the stored form.
+pub const VERSION: u8 = 1;
+
+// The bytes before the first order: the version and two of the length.
+pub const HEADER: usize = 3;
+
+pub const MOST_ORDERS: usize = 64;
+
+// The numbers of document 01's refusal table.
+pub const TOO_SHORT: u8 = 2;
+
+pub const OTHER_VERSION: u8 = 3;
+
+pub const PLAN_LENGTH: u8 = 4;
+
+pub const ORDER_LENGTH: u8 = 5;
+
+pub const UNKNOWN_CODE: u8 = 6;
+
+pub const CODE_LENGTH: u8 = 7;
+
+pub const FIELD_RANGE: u8 = 8;
+
+pub const TOO_MANY: u8 = 9;
+
+// What judging a plan answers.
+pub enum Judged {
+    // The number of orders.
+    Accepted { count: usize },
+    // The number of document 01's refusal table, and the byte place.
+    Refused { number: u8, place: usize },
+}
+
+// The byte at a place; 0 past the end.
+pub fn byte_at(plan: &[u8], i: usize) -> u8
+    ensures { λ r. ⌜ r ≡ byteAt (now (plan .entry)) i ⌝ }
+{
+    if i < plan.len() { plan[i] } else { 0 }
+}
+
+// Two bytes from a place on, the first the higher.
+fn pair_at(plan: &[u8], i: usize) -> u16
+    requires { ⌜ i + 1 < 2 ^ 64 ⌝ }
+    ensures { λ r. ⌜ r ≡ pairAt (now (plan .entry)) i ⌝ }
+{
+    let high = byte_at(plan, i) as u16;
+    let low = byte_at(plan, i + 1) as u16;
+    high * 256 + low
+}
+
+// The ith field of an order whose fields start at a place.
+fn field_at(plan: &[u8], at: usize, code: u8, i: usize) -> u16
+    requires { ⌜ (at < 2 ^ 63 + 2) × (i < 4) ⌝ }
+    ensures { λ r. ⌜ r ≡ fieldAt (now (plan .entry)) at code i ⌝ }
+{
+    if count_of(code) <= i {
+        return 0;
+    }
+    if width_of(code) == 2 {
+        return pair_at(plan, at + 2 * i);
+    }
+    byte_at(plan, at + i) as u16
+}
+
+// The order whose length byte is at a place; past the end all its bytes are 0.
+pub fn order_at(plan: &[u8], at: usize) -> Order
+    ensures { λ r. ⌜ r ≡ orderAt (now (plan .entry)) at ⌝ }
+{
+    if plan.len() <= at {
+        return Order {
+            code: 0,
+            a: 0,
+            b: 0,
+            c: 0,
+            d: 0,
+        };
+    }
+    let code = byte_at(plan, at + 1);
+    let fields = at + 2;
+    let a = field_at(plan, fields, code, 0);
+    let b = field_at(plan, fields, code, 1);
+    let c = field_at(plan, fields, code, 2);
+    let d = field_at(plan, fields, code, 3);
+    Order { code, a, b, c, d }
+}
+
+// What is wrong with the order at a place: a number of document 01's refusal table, 0 for nothing.
+pub fn fault_at(plan: &[u8], at: usize) -> u8
+    ensures { λ r. ⌜ r ≡ faultAt (now (plan .entry)) at ⌝ }
+{
+    if plan.len() <= at {
+        return ORDER_LENGTH;
+    }
+    let size = byte_at(plan, at) as usize;
+    if size == 0 {
+        return ORDER_LENGTH;
+    }
+    if plan.len() < at + 1 + size {
+        return ORDER_LENGTH;
+    }
+    let code = byte_at(plan, at + 1);
+    if !is_known(code) {
+        return UNKNOWN_CODE;
+    }
+    if size != length_of(code) {
+        return CODE_LENGTH;
+    }
+    let order = order_at(plan, at);
+    if order.fields_fit() { 0 } else { FIELD_RANGE }
+}
+
+// The orders, from the first on.
+fn judge_orders(plan: &[u8]) -> Judged
+    ensures { λ r. ⌜ r ≡ judgedOf (ordersFrom mostOrders (now (plan .entry)) 3) ⌝ }
+{
+    let mut at: usize = HEADER;
+    let mut count: usize = 0;
+    while at < plan.len() {
+        if MOST_ORDERS <= count {
+            return Judged::Refused {
+                number: TOO_MANY,
+                place: at,
+            };
+        }
+        let fault = fault_at(plan, at);
+        if fault != 0 {
+            return Judged::Refused {
+                number: fault,
+                place: at,
+            };
+        }
+        at = at + 1 + byte_at(plan, at) as usize;
+        count = count + 1;
+    }
+    Judged::Accepted { count }
+}
+
+// Whether a plan is accepted.
+pub fn judge(plan: &[u8]) -> Judged
+    ensures { λ r. ⌜ r ≡ judgedOf (planOf (now (plan .entry))) ⌝ }
+{
+    if plan.len() < HEADER {
+        return Judged::Refused {
+            number: TOO_SHORT,
+            place: 0,
+        };
+    }
+    if plan[0] != VERSION {
+        return Judged::Refused {
+            number: OTHER_VERSION,
+            place: 0,
+        };
+    }
+    if plan.len() != HEADER + pair_at(plan, 1) as usize {
+        return Judged::Refused {
+            number: PLAN_LENGTH,
+            place: 0,
+        };
+    }
+    judge_orders(plan)
+}
