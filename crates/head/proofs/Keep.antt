@@ -28,7 +28,7 @@ use Rattle.head.proofs.Bounds.{Bounds, RegisterBounds, LatchBounds, Mot
 use Rattle.head.proofs.Answers.{Kept, same, dropped, Answer, ignoring, taking, answer}
 
 -- a choice between two numbers is bounded if each is where it is chosen
-chosen : (c : Bool) (x y n : ℕ) → (c ≡ true → x ≤ n) → y ≤ n → cond c x y ≤ n
+pub chosen : (c : Bool) (x y n : ℕ) → (c ≡ true → x ≤ n) → y ≤ n → cond c x y ≤ n
 chosen true x y n p q = p refl
 chosen false x y n p q = q
 
@@ -42,7 +42,7 @@ module _ (k b : ℕ) (fine : allowed k b ≡ true) where
   most j e = allowed-most j b (of-kind j e)
 
   -- a register that a word of kind j sets to its data
-  plain : (j old : ℕ) → old ≤ greatest j → cond (eqb k j) b old ≤ greatest j
+  pub plain : (j old : ℕ) → old ≤ greatest j → cond (eqb k j) b old ≤ greatest j
   plain j old h = chosen (eqb k j) b old (greatest j) (most j) h
 
   at-least : (j old : ℕ) → least j ≤ old → least j ≤ cond (eqb k j) b old
@@ -52,7 +52,7 @@ module _ (k b : ℕ) (fine : allowed k b ≡ true) where
       go true e = allowed-least j b (of-kind j e)
       go false e = h
 
-  steps-most : eqb k kind.cover ≡ true → steps b ≤ 81
+  pub steps-most : eqb k kind.cover ≡ true → steps b ≤ 81
   steps-most e = allowed-steps b (of-kind kind.cover e)
 
   module _ (s : Head) (h : Bounds s) where

@@ -1,3 +1,4 @@
 pub mod Earliest
 pub mod Schedule
+pub mod Clock
 pub mod Translate

@@ -1,4 +1,5 @@
 // Plans translated into timed words (document 01, "Plans").
+pub mod clock;
 
 // What translating a plan answers.
 pub enum Translated {

@@ -1,0 +1,5 @@
+pub mod InTurn
+pub mod Orders
+pub mod Ready
+pub mod Clocked
+pub mod Plans

@@ -1,0 +1,145 @@
+-- A plan whose orders are known and fit, for a head that is fit: its words go at the earliest ticks, the clock gives them, they are at
+-- most 256 and the end is at most 4,194,240.
+-- Assumes nothing.
+use mathlib.Core.Path.{_≡_, refl}
+use mathlib.Core.Bool.{Bool, true, false, cond, _&&_}
+use mathlib.Core.List.{List, [], _∷_, _++_}
+use Prim.Native.Nat.{ℕ, suc, _+_, _*_, _≤_}
+use native.Mathlib.Omega.{arith}
+use borrow.Author.Tests.{eqb-true}
+use lib.Dec.{eqb}
+use lib.ListN.{length}
+use Rattle.words.specs.Codec.{wordOf}
+use Rattle.words.proofs.Tests.{and-left, and-right}
+use Rattle.head.specs.Limits.{lengthOf}
+use Rattle.head.specs.Range.{inRange}
+use Rattle.head.specs.Tick.{ticksOf}
+use Rattle.head.specs.declared.state.Head.{Head}
+use Rattle.head.proofs.Bounds.{bounds, length-bounds}
+use Rattle.plan.specs.Words.{Item, itemsOfAll}
+use Rattle.plan.specs.declared.order.Order.{Order}
+use Rattle.schedule.specs.Earliest.{atRest, delayOf, startWord, hkWord}
+use Rattle.schedule.specs.Schedule.{readied, spanOf, sent, scheduleFrom, Earliest}
+use Rattle.schedule.specs.Clock.{clockOf, clockedFrom}
+use Rattle.schedule.specs.Translate.{fit}
+use Rattle.schedule.proofs.InTurn.{Step, word, wait, InTurn, empty, given, paused}
+use Rattle.schedule.proofs.Orders.{AllFit, ByOrder, Meant, by-orders}
+use Rattle.schedule.proofs.Ready.{Idle, idle-ticks, wait-most, delay-wait, readied-idle, sent-idle, earliest}
+use Rattle.schedule.proofs.Clocked.{at-first, clocked}
+
+-- how many words steps have, and how many ticks they take at most: a word waits for motions at most 2025 ticks, and no acquisition is
+-- longer than 4238
+abbrev pub wordCount : List Step → ℕ
+wordCount [] = 0
+wordCount (word k b ∷ ms) = suc (wordCount ms)
+wordCount (wait n ∷ ms) = wordCount ms
+
+abbrev pub mostTicks : List Step → ℕ
+mostTicks [] = 0
+mostTicks (word k b ∷ ms) = 6263 + mostTicks ms
+mostTicks (wait n ∷ ms) = n + mostTicks ms
+
+words-append : (ms ns : List Step) → wordCount (ms ++ ns) ≡ wordCount ms + wordCount ns
+words-append [] ns = omega arith
+words-append (word k b ∷ ms) ns = omega (arith, words-append ms ns)
+words-append (wait n ∷ ms) ns = words-append ms ns
+
+ticks-append : (ms ns : List Step) → mostTicks (ms ++ ns) ≡ mostTicks ms + mostTicks ns
+ticks-append [] ns = omega arith
+ticks-append (word k b ∷ ms) ns = omega (arith, ticks-append ms ns)
+ticks-append (wait n ∷ ms) ns = omega (arith, ticks-append ms ns)
+
+-- an order has at most 4 words and takes at most 65,535 ticks
+abbrev pub Small : ℕ → List Step → Type 0
+Small n ms = (wordCount ms ≤ 4 * n) × (mostTicks ms ≤ 65535 * n)
+
+small : ByOrder (λ o ms. Small 1 ms)
+small =
+    record {
+      vdetcom = λ a b c d. omega arith;
+      vdetadj = λ a b c d. omega arith;
+      irTimes = λ a b c d. omega arith;
+      ccdTimes = λ a b c d. omega arith;
+      windowMode = λ a b c d. omega arith;
+      window = λ a b c d. omega arith;
+      detector = λ a b c d. omega arith;
+      ccdLamp = λ a b c d. omega arith;
+      irLamp = λ a b c d. omega arith;
+      shutter = λ a b c d. omega arith;
+      annealing = λ a b c d. omega arith;
+      mirror = λ a b c d. omega arith;
+      motor = λ a b c d. omega arith;
+      cover = λ a b c d p q r s. omega arith;
+      expose = λ a b c d. omega arith;
+      housekeeping = λ a b c d. omega arith;
+      wait = λ a b c d p. omega arith;
+    }
+
+pub plan-steps : (os : List Order) → AllFit os → Meant (itemsOfAll os) (λ ms. Small (length os) ms)
+plan-steps =
+    by-orders (λ o ms. Small 1 ms) small (λ os ms. Small (length os) ms) (omega arith)
+    (λ o os ms ns p q. omega (arith, words-append ms ns, ticks-append ms ns))
+
+-- the schedule has a word for each word of the steps, and ends within their ticks
+pub count-is : {n : ℕ} {is : List Item} {ms : List Step} → InTurn n is ms → (s : Head) (t : ℕ)
+    → length (scheduleFrom s t is .list) ≡ wordCount ms
+unfolding scheduleFrom
+count-is empty s t = refl
+count-is (given k b fine turn r) s t =
+    let w = wordOf k b in
+    let rest = count-is r (sent s w) (t + delayOf s w + spanOf (readied s w) w) in
+    omega arith
+count-is (paused m r) s t = count-is r (ticksOf m s) (t + m)
+
+span-most : (s : Head) (w : ℕ) → inRange s ≡ true → spanOf s w ≤ 4238
+unfolding spanOf
+span-most s w h = go (eqb w startWord) (eqb w hkWord)
+  where
+    go : (x y : Bool) → cond x (lengthOf (s .settings)) (cond y 3 1) ≤ 4238
+    go true y = length-bounds (s .settings) (bounds s h .settings) .1
+    go false true = omega arith
+    go false false = omega arith
+
+pub end-within : {n : ℕ} {is : List Item} {ms : List Step} → InTurn n is ms → (s : Head) → Idle s n → (t : ℕ)
+    → scheduleFrom s t is .end ≤ t + mostTicks ms
+unfolding scheduleFrom
+end-within empty s i t = omega arith
+end-within {n} (given k b fine turn r) s i t =
+    let w = wordOf k b in
+    let m = bounds s (i .ranged) .motion in
+    let d = delay-wait k b n fine turn s i in
+    let l = wait-most k (s .motion) (m .mirror) (m .cover) in
+    let p = span-most (readied s w) w (readied-idle k b n fine turn s i .ranged) in
+    let rest = end-within r (sent s w) (sent-idle k b n fine turn s i) (t + delayOf s w + spanOf (readied s w) w) in
+    omega arith
+end-within {n} (paused m r) s i t =
+    let rest = end-within r (ticksOf m s) (idle-ticks m s n i) (t + m) in
+    omega arith
+
+module _ (s : Head) (h : fit s ≡ true) where
+  pub fit-idle : Idle s (s .begun .count)
+  unfolding fit
+  fit-idle =
+      let most = and-left (inRange s && eqb (s .work .busy) 0) (atRest s) h in
+      record {
+        ranged = and-left (inRange s) (eqb (s .work .busy) 0) most;
+        idle = eqb-true (s .work .busy) 0 (and-right (inRange s) (eqb (s .work .busy) 0) most);
+        count = refl;
+      }
+
+  module _ (os : List Order) (all : AllFit os) where
+    turn : InTurn (s .begun .count) (itemsOfAll os) (plan-steps os all .steps)
+    turn = plan-steps os all .turn (s .begun .count)
+
+    pub plan-earliest : Earliest s (itemsOfAll os)
+    plan-earliest = earliest turn s fit-idle
+
+    pub plan-clocked : scheduleFrom s 0 (itemsOfAll os) ≡ clockedFrom (clockOf s 0) (itemsOfAll os)
+    unfolding clockOf
+    plan-clocked = clocked turn s fit-idle (clockOf s 0) (at-first s 0)
+
+    pub plan-count : length os ≤ 64 → length (scheduleFrom s 0 (itemsOfAll os) .list) ≤ 256
+    plan-count l = let m = plan-steps os all .holds .0 in omega (arith, count-is turn s 0)
+
+    pub plan-end : length os ≤ 64 → scheduleFrom s 0 (itemsOfAll os) .end ≤ 4194240
+    plan-end l = let m = plan-steps os all .holds .1 in omega (arith, end-within turn s fit-idle 0)

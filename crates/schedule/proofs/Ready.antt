@@ -1,0 +1,266 @@
+-- Words to a head that is idle: when each kind may go, how many ticks pass before it, and that it goes at the earliest tick.
+-- Assumes nothing.
+use mathlib.Core.Path.{_≡_, refl, sym, _∙_}
+use mathlib.Core.Bool.{Bool, true, false, cond, not, _&&_, _||_, false≢true}
+use mathlib.Core.List.{List}
+use Prim.Native.Nat.{ℕ, zero, suc, _-_, _<_, _≤_, max}
+use native.Mathlib.Omega.{arith}
+use borrow.Author.Tests.{le-leb, le-ltb, ltb-false, not-true, eqb-true, eq-eqb}
+use native.Mathlib.Nat.{zero-sub}
+use Rattle.words.proofs.Tests.{and-left, and-right}
+use lib.Dec.{ltb, eqb}
+use Rattle.words.specs.Kinds as kind
+use Rattle.words.specs.Kinds.{allowed, rows, least, greatest}
+use Rattle.words.specs.Codec.{wordOf}
+use Rattle.head.specs.Range.{inRange}
+use Rattle.head.specs.Limits.{lengthOf}
+use Rattle.head.specs.Flags.{timeIr}
+use Rattle.head.specs.Apply.{after, workAfter, begunAfter}
+use Rattle.head.specs.Word.{ignored, outOfTurn, onWord, onDecoded, answerOf}
+use Rattle.head.specs.Tick.{tickOf, ticksOf}
+use Rattle.head.specs.Ticks.{elapsed, workLeft, motionLeft}
+use Rattle.head.specs.State.{noneBegun}
+use Rattle.head.specs.declared.state.Begun.{Begun}
+use Rattle.head.specs.declared.state.Motion.{Motion}
+use Rattle.head.specs.declared.state.Task.the-variants.{Acquisition, Housekeeping, Idle as Idling}
+use Rattle.head.specs.declared.state.Head.{Head}
+use Rattle.head.specs.declared.word.Cause.the-variants.{CoverMoving}
+use Rattle.head.proofs.Bounds.{bounds}
+use Rattle.head.proofs.Answers.{taken}
+use Rattle.head.proofs.Keep.{word-keeps, ticks-keep}
+use Rattle.head.proofs.Ticks.{ticks-elapsed, ticks-begun}
+use Rattle.plan.specs.Words.{Item}
+use Rattle.schedule.specs.Earliest.{atRest, isTaken, startWord, hkWord, ready, delayWithin, delayOf}
+use Rattle.schedule.specs.Schedule.{readied, spanOf, sent, Earliest}
+use Rattle.schedule.specs.Clock.{waitOf}
+use Rattle.schedule.proofs.InTurn.{Step, InTurn, empty, given, paused, word-decoded, word-is, countAfter}
+
+-- a head in range and idle, with so many words of a mirror set begun
+pub record Idle (s : Head) (c : ℕ) : Type 0 where
+  pub ranged : inRange s ≡ true
+  pub idle : s .work .busy ≡ 0
+  pub count : s .begun .count ≡ c
+
+-- it stays so as ticks pass, and the motions fall
+module _ (n : ℕ) (s : Head) (h : inRange s ≡ true) where
+  pub ticks-motion : ticksOf n s .motion ≡ motionLeft n (s .motion)
+  unfolding elapsed
+  ticks-motion = rw (ticks-elapsed n s h)
+
+  pub ticks-busy : s .work .busy ≤ n → ticksOf n s .work .busy ≡ 0
+  unfolding elapsed workLeft
+  ticks-busy m = rw (ticks-elapsed n s h, le-leb (s .work .busy) n m)
+
+pub idle-ticks : (n : ℕ) (s : Head) (c : ℕ) → Idle s c → Idle (ticksOf n s) c
+idle-ticks n s c i =
+    record {
+      ranged = ticks-keep n s (i .ranged);
+      idle = ticks-busy n s (i .ranged) (omega (arith, i .idle));
+      count = rw (ticks-begun n s (i .ranged)) (i .count);
+    }
+
+-- whether a word of kind k may go to an idle head with these motions
+unfoldable pub free : ℕ → Motion → Bool
+free k m = not (eqb k kind.cover && ltb 0 (m .cover)) && (not (eqb k kind.start) || (eqb (m .mirror) 0 && eqb (m .cover) 0))
+
+-- exactly when there is nothing to wait for
+module _ (k : ℕ) (m : Motion) where
+  pub free-now : free k m ≡ true → waitOf k m ≡ 0
+  unfolding free waitOf
+  free-now h = go (eqb k kind.start) (eqb k kind.cover) h
+    where
+      resting : Bool
+      resting = eqb (m .mirror) 0 && eqb (m .cover) 0
+
+      go : (x y : Bool) → (not (y && ltb 0 (m .cover)) && (not x || resting)) ≡ true
+          → cond x (max (m .mirror) (m .cover)) (cond y (m .cover) 0) ≡ 0
+      go true y e =
+          let r = and-right (not (y && ltb 0 (m .cover))) resting e in
+          let p = eqb-true (m .mirror) 0 (and-left (eqb (m .mirror) 0) (eqb (m .cover) 0) r) in
+          let q = eqb-true (m .cover) 0 (and-right (eqb (m .mirror) 0) (eqb (m .cover) 0) r) in
+          omega arith
+      go false true e =
+          let l = ltb-false 0 (m .cover) (not-true (ltb 0 (m .cover)) (and-left (not (ltb 0 (m .cover))) true e)) in omega arith
+      go false false e = refl
+
+  pub now-free : waitOf k m ≡ 0 → free k m ≡ true
+  unfolding free waitOf
+  now-free h = go (eqb k kind.start) (eqb k kind.cover) h
+    where
+      go : (x y : Bool) → cond x (max (m .mirror) (m .cover)) (cond y (m .cover) 0) ≡ 0
+          → (not (y && ltb 0 (m .cover)) && (not x || (eqb (m .mirror) 0 && eqb (m .cover) 0))) ≡ true
+      go true true e = rw (le-ltb 0 (m .cover) (omega arith), eq-eqb (m .mirror) 0 (omega arith), eq-eqb (m .cover) 0 (omega arith))
+      go true false e = rw (eq-eqb (m .mirror) 0 (omega arith), eq-eqb (m .cover) 0 (omega arith))
+      go false true e = rw (le-ltb 0 (m .cover) (omega arith))
+      go false false e = refl
+
+  pub wait-falls : (n : ℕ) → waitOf k (motionLeft n m) ≡ waitOf k m - n
+  unfolding waitOf
+  wait-falls n = go (eqb k kind.start) (eqb k kind.cover)
+    where
+      go : (x y : Bool)
+          → cond x (max (m .mirror - n) (m .cover - n)) (cond y (m .cover - n) 0)
+          ≡ cond x (max (m .mirror) (m .cover)) (cond y (m .cover) 0) - n
+      go true y = omega arith
+      go false true = refl
+      go false false = sym (zero-sub n)
+
+  pub wait-most : m .mirror ≤ 30 → m .cover ≤ 2025 → waitOf k m ≤ 2025
+  unfolding waitOf
+  wait-most p q = go (eqb k kind.start) (eqb k kind.cover)
+    where
+      go : (x y : Bool) → cond x (max (m .mirror) (m .cover)) (cond y (m .cover) 0) ≤ 2025
+      go true y = omega arith
+      go false true = q
+      go false false = omega arith
+
+-- a word of kind k with data b, in turn after c words of a mirror set
+module _ (k b c : ℕ) (fine : allowed k b ≡ true) (turn : outOfTurn c k ≡ false) where
+  -- the head's answer: taken, unless it is COVER and the cover moves
+  pub answer-idle : (s : Head) → Idle s c
+      → answerOf s (wordOf k b)
+      ≡ cond (eqb k kind.cover && ltb 0 (s .motion .cover)) (ignored s (timeIr (s .flags)) (s .begun) CoverMoving) (taken s k b)
+  unfolding answerOf onDecoded onWord
+  answer-idle s i = rw (i .ranged, i .idle, word-decoded k b fine, i .count, turn)
+
+  pub is-start : eqb (wordOf k b) startWord ≡ eqb k kind.start
+  unfolding wordOf rows allowed least greatest
+  is-start = word-is k b fine kind.start refl refl
+
+  pub is-hk : eqb (wordOf k b) hkWord ≡ eqb k kind.hk
+  unfolding wordOf rows allowed least greatest
+  is-hk = word-is k b fine kind.hk refl refl
+
+  pub ready-free : (s : Head) → Idle s c → ready s (wordOf k b) ≡ free k (s .motion)
+  unfolding ready free atRest isTaken
+  ready-free s i = rw (is-start, answer-idle s i) (go (eqb k kind.cover && ltb 0 (s .motion .cover)))
+    where
+      go : (x : Bool)
+          → (isTaken (cond x (ignored s (timeIr (s .flags)) (s .begun) CoverMoving) (taken s k b) .outcome) && (not (eqb k kind.start) || atRest s))
+          ≡ (not x && (not (eqb k kind.start) || atRest s))
+      go true = refl
+      go false = refl
+
+  -- at each tick before the wait is over it may not go
+  pub not-before : (s : Head) → Idle s c → (n : ℕ) → n < waitOf k (s .motion) → ready (ticksOf n s) (wordOf k b) ≡ false
+  not-before s i n l = go (ready (ticksOf n s) (wordOf k b)) refl
+    where
+      go : (x : Bool) → ready (ticksOf n s) (wordOf k b) ≡ x → x ≡ false
+      go false e = refl
+      go true e =
+          let f : free k (motionLeft n (s .motion)) ≡ true = rw (← ticks-motion n s (i .ranged)) (sym (ready-free (ticksOf n s) (idle-ticks n s c i)) ∙ e) in
+          let z = wait-falls k (s .motion) n in
+          let y = free-now k (motionLeft n (s .motion)) f in
+          absurd (omega arith)
+
+  -- when it is over, it may
+  pub ready-then : (s : Head) → Idle s c → ready (ticksOf (waitOf k (s .motion)) s) (wordOf k b) ≡ true
+  ready-then s i =
+      let n = waitOf k (s .motion) in
+      let z = wait-falls k (s .motion) n in
+      rw (ready-free (ticksOf n s) (idle-ticks n s c i), ticks-motion n s (i .ranged)) (now-free k (motionLeft n (s .motion)) (omega arith))
+
+  -- so that the wait is the delay
+  within : (n : ℕ) (s : Head) → Idle s c → waitOf k (s .motion) ≤ n → delayWithin n s (wordOf k b) ≡ waitOf k (s .motion)
+  unfolding delayWithin ticksOf
+  within zero s i l = omega arith
+  within (suc n) s i l = go (ready s (wordOf k b)) refl (within n (tickOf s .head))
+    where
+      go : (x : Bool) → ready s (wordOf k b) ≡ x
+          → (Idle (tickOf s .head) c → waitOf k (tickOf s .head .motion) ≤ n
+          → delayWithin n (tickOf s .head) (wordOf k b) ≡ waitOf k (tickOf s .head .motion))
+          → elim x [ true ↦ 0 | false ↦ suc (delayWithin n (tickOf s .head) (wordOf k b)) ] ≡ waitOf k (s .motion)
+      go true e rec = sym (free-now k (s .motion) (sym (ready-free s i) ∙ e))
+      go false e rec =
+          let later = idle-ticks 1 s c i in
+          let down : waitOf k (tickOf s .head .motion) ≡ waitOf k (s .motion) - 1 = rw (ticks-motion 1 s (i .ranged)) (wait-falls k (s .motion) 1) in
+          let some : waitOf k (s .motion) ≡ 0 → ⊥ = λ z. false≢true (sym e ∙ ready-free s i ∙ now-free k (s .motion) z) in
+          let r = rec later (omega arith) in
+          omega arith
+
+  pub delay-wait : (s : Head) → Idle s c → delayOf s (wordOf k b) ≡ waitOf k (s .motion)
+  unfolding delayOf
+  delay-wait s i =
+      let m = bounds s (i .ranged) .motion in
+      within 2025 s i (wait-most k (s .motion) (m .mirror) (m .cover))
+
+  module _ (s : Head) (i : Idle s c) where
+    pub readied-ticks : readied s (wordOf k b) ≡ ticksOf (waitOf k (s .motion)) s
+    unfolding readied
+    readied-ticks = rw (delay-wait s i)
+
+    pub readied-idle : Idle (readied s (wordOf k b)) c
+    readied-idle = rw readied-ticks (idle-ticks (waitOf k (s .motion)) s c i)
+
+    pub readied-ready : ready (readied s (wordOf k b)) (wordOf k b) ≡ true
+    readied-ready = rw readied-ticks (ready-then s i)
+
+    -- at its tick the word is taken
+    pub readied-taken : answerOf (readied s (wordOf k b)) (wordOf k b) ≡ taken (readied s (wordOf k b)) k b
+    unfolding free
+    readied-taken =
+        let t = readied s (wordOf k b) in
+        let f : free k (t .motion) ≡ true = sym (ready-free t readied-idle) ∙ readied-ready in
+        let still = not-true (eqb k kind.cover && ltb 0 (t .motion .cover)) (and-left (not (eqb k kind.cover && ltb 0 (t .motion .cover))) (not (eqb k kind.start) || (eqb (t .motion .mirror) 0 && eqb (t .motion .cover) 0)) f) in
+        rw (answer-idle t readied-idle, still)
+
+  -- the span covers what the word makes the head busy with
+  busy-span : (s : Head) → s .work .busy ≡ 0 → workAfter s k .busy ≤ spanOf s (wordOf k b)
+  unfolding workAfter spanOf
+  busy-span s z = rw (is-start, is-hk) (go (eqb k kind.start) (eqb k kind.hk) (eqb k kind.stop))
+    where
+      go : (x y u : Bool)
+          → cond x (record { task = Acquisition; busy = lengthOf (s .settings) })
+          (cond y (record { task = Housekeeping; busy = 3 }) (cond u (record { task = Idling; busy = 0 }) (s .work))) .busy
+          ≤ cond x (lengthOf (s .settings)) (cond y 3 1)
+      go true y u = omega arith
+      go false true u = omega arith
+      go false false true = omega arith
+      go false false false = omega arith
+
+  count-after : (s : Head) → s .begun .count ≡ c → begunAfter s k b .count ≡ countAfter c k
+  unfolding begunAfter countAfter
+  count-after s e = rw (← e) (go (eqb k kind.sinM) (eqb k kind.sinL) (eqb k kind.cosM) (eqb k kind.cosL))
+    where
+      g : Begun
+      g = s .begun
+
+      go : (x y z u : Bool)
+          → cond x (record { count = 1; sinm = b; sinl = 0; cosm = 0 })
+          (cond y (record { count = 2; sinm = g .sinm; sinl = b; cosm = 0 })
+          (cond z (record { count = 3; sinm = g .sinm; sinl = g .sinl; cosm = b }) (cond u noneBegun g))) .count
+          ≡ cond x 1 (cond y 2 (cond z 3 (cond u 0 (g .count))))
+      go true y z u = refl
+      go false true z u = refl
+      go false false true u = refl
+      go false false false true = refl
+      go false false false false = refl
+
+  module _ (s : Head) (i : Idle s c) where
+    -- the head that has taken the word
+    pub told-head : answerOf (readied s (wordOf k b)) (wordOf k b) .head ≡ after (readied s (wordOf k b)) k b
+    told-head = rw (readied-taken s i)
+
+    -- at the clock after the word the head is idle again
+    pub sent-idle : Idle (sent s (wordOf k b)) (countAfter c k)
+    unfolding sent after
+    sent-idle =
+        let t = readied s (wordOf k b) in
+        let n = spanOf t (wordOf k b) in
+        let ranged : inRange (after t k b) ≡ true = rw told-head at (word-keeps t (readied-idle s i .ranged) (wordOf k b)) in
+        rw told-head
+        (record {
+          ranged = ticks-keep n (after t k b) ranged;
+          idle = ticks-busy n (after t k b) ranged (busy-span t (readied-idle s i .idle));
+          count = rw (ticks-begun n (after t k b) ranged) (count-after t (readied-idle s i .count));
+        })
+
+-- Demand 2: every word of such items goes at the earliest tick
+pub earliest : {c : ℕ} {is : List Item} {ms : List Step} → InTurn c is ms → (s : Head) → Idle s c → Earliest s is
+earliest empty s i = tt
+earliest {c} (given k b fine turn r) s i = (
+  readied-ready k b c fine turn s i,
+  λ n l. not-before k b c fine turn s i n (rw (delay-wait k b c fine turn s i) at l),
+  earliest r (sent s (wordOf k b)) (sent-idle k b c fine turn s i),
+)
+earliest {c} (paused n r) s i = earliest r (ticksOf n s) (idle-ticks n s c i)

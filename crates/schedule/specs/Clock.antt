@@ -1,0 +1,85 @@
+-- Document 01, "Plans": the clock, advanced word by word with sums and maxima alone. It gives the ticks and the end that the head's own
+-- answers and ticks give.
+-- Assumes nothing.
+use Prim.Native.Nat.{ℕ, _+_, _*_, max}
+use mathlib.Core.Bool.{cond, _&&_, _||_}
+use mathlib.Core.List.{List, [], _∷_}
+use lib.Dec.{eqb}
+use Rattle.words.specs.Fields.{steps}
+use Rattle.words.specs.Kinds as kind
+use Rattle.words.specs.Kinds.{kindOf, identifier, bitsOf}
+use Rattle.head.specs.Limits.{mirrorTicks, coverStepTicks, hkTicks, stepTicks, ccdReadout, readoutOf}
+use Rattle.head.specs.declared.state.Motion.{Motion}
+use Rattle.head.specs.declared.state.Head.{Head}
+use Rattle.plan.specs.Words.{Item, send, pause}
+use Rattle.schedule.specs.Schedule.{Schedule, following}
+use Rattle.schedule.specs.declared.clock.Clock.{Clock}
+
+-- How many ticks pass before a word of kind k may go to an idle head: START waits until both motions are 0, COVER until the cover's is.
+unfoldable pub waitOf : ℕ → Motion → ℕ
+waitOf k m = cond (eqb k kind.start) (max (m .mirror) (m .cover)) (cond (eqb k kind.cover) (m .cover) 0)
+
+-- The clock of a head that is idle at tick t.
+unfoldable pub clockOf : Head → ℕ → Clock
+clockOf s t =
+    record {
+      now = t;
+      mirror = t + s .motion .mirror;
+      cover = t + s .motion .cover;
+      mode = s .settings .mode;
+      irdelay = s .settings .irdelay;
+      irexpo = s .settings .irexpo;
+      ccddelay = s .settings .ccddelay;
+      ccdexpo = s .settings .ccdexpo;
+    }
+
+-- The tick of a word of kind k.
+unfoldable pub tickFor : Clock → ℕ → ℕ
+tickFor c k =
+    cond (eqb k kind.start) (max (c .now) (max (c .mirror) (c .cover)))
+    (cond (eqb k kind.cover) (max (c .now) (c .cover)) (c .now))
+
+-- The length of an acquisition under the clock's settings.
+unfoldable pub lengthAt : Clock → ℕ
+lengthAt c =
+    1 + max (stepTicks * (c .ccddelay + c .ccdexpo) + ccdReadout) (stepTicks * (c .irdelay + c .irexpo) + readoutOf (c .mode))
+
+-- From the tick of a word to the clock after it.
+unfoldable pub spanAt : Clock → ℕ → ℕ
+spanAt c k = cond (eqb k kind.start) (lengthAt c) (cond (eqb k kind.hk) hkTicks 1)
+
+-- The clock after a word of kind k with data b.
+unfoldable pub clockAfter : Clock → ℕ → ℕ → Clock
+clockAfter c k b =
+    record {
+      now = tickFor c k + spanAt c k;
+      mirror = cond (eqb k kind.cosL || (eqb k kind.switch && eqb b 0)) (tickFor c k + mirrorTicks) (c .mirror);
+      cover = cond (eqb k kind.cover) (tickFor c k + coverStepTicks * steps b) (c .cover);
+      mode = cond (eqb k kind.irWinMode) b (c .mode);
+      irdelay = cond (eqb k kind.irDelay) b (c .irdelay);
+      irexpo = cond (eqb k kind.irExpo) b (c .irexpo);
+      ccddelay = cond (eqb k kind.ccdDelay) b (c .ccddelay);
+      ccdexpo = cond (eqb k kind.ccdExpo) b (c .ccdexpo);
+    }
+
+-- A wait adds its ticks.
+unfoldable pub clockPaused : Clock → ℕ → Clock
+clockPaused c n =
+    record {
+      now = c .now + n;
+      mirror = c .mirror;
+      cover = c .cover;
+      mode = c .mode;
+      irdelay = c .irdelay;
+      irexpo = c .irexpo;
+      ccddelay = c .ccddelay;
+      ccdexpo = c .ccdexpo;
+    }
+
+abbrev pub kindIn : ℕ → ℕ
+kindIn w = kindOf (identifier w)
+
+unfoldable pub clockedFrom : Clock → List Item → Schedule
+clockedFrom c [] = record { list = []; end = c .now }
+clockedFrom c (send w ∷ is) = following (tickFor c (kindIn w)) w (clockedFrom (clockAfter c (kindIn w) (bitsOf w)) is)
+clockedFrom c (pause n ∷ is) = clockedFrom (clockPaused c n) is
