@@ -29,9 +29,13 @@ unfoldable pub readoutOf : ℕ → ℕ
 readoutOf mode = cond (eqb mode 0) 140 60
 
 -- Length of an acquisition in ticks; the 1 because the repetition must be strictly longer.
+unfoldable pub lengthBy : ℕ → ℕ → ℕ → ℕ → ℕ → ℕ
+lengthBy mode irdelay irexpo ccddelay ccdexpo =
+    1 + max (stepTicks * (ccddelay + ccdexpo) + ccdReadout) (stepTicks * (irdelay + irexpo) + readoutOf mode)
+
 unfoldable pub lengthOf : Settings → ℕ
-lengthOf s =
-    1 + max (stepTicks * (s .ccddelay + s .ccdexpo) + ccdReadout) (stepTicks * (s .irdelay + s .irexpo) + readoutOf (s .mode))
+unfolding lengthBy
+lengthOf s = lengthBy (s .mode) (s .irdelay) (s .irexpo) (s .ccddelay) (s .ccdexpo)
 
 -- It lies in 156..4238.
 abbrev pub longest : ℕ

@@ -36,7 +36,7 @@ use words::kinds::WIN_Y2;
 ghost use mathlib.Core.Path.{_≡_};
 ghost use mathlib.Core.Bool.{true};
 ghost use Prim.Native.Nat.{ℕ, _+_, _*_, _≤_, _<_, max};
-ghost use Rattle.head.specs.Limits.{stepTicks, readoutOf, lengthOf};
+ghost use Rattle.head.specs.Limits.{stepTicks, readoutOf, lengthBy, lengthOf};
 ghost use Rattle.head.specs.Range.{inRange};
 ghost use Rattle.head.specs.Apply.{after};
 
@@ -64,14 +64,26 @@ fn larger(a: u32, b: u32) -> u32
     if a < b { b } else { a }
 }
 
+// The length of an acquisition in ticks, by the settings that give it.
+pub fn acquisition_ticks(mode: u16, irdelay: u16, irexpo: u16, ccddelay: u16, ccdexpo: u16) -> u32
+    ensures { λ r. ⌜ r ≡ lengthBy mode irdelay irexpo ccddelay ccdexpo ⌝ }
+{
+    let ccd = channel(ccddelay, ccdexpo, Head::CCD_READOUT);
+    let ir = channel(irdelay, irexpo, readout(mode));
+    1 + larger(ccd, ir)
+}
+
 impl Settings {
-    // The length of an acquisition in ticks.
     pub fn acquisition_ticks(self) -> u32
         ensures { λ r. ⌜ r ≡ lengthOf self ⌝ }
     {
-        let ccd = channel(self.ccddelay, self.ccdexpo, Head::CCD_READOUT);
-        let ir = channel(self.irdelay, self.irexpo, readout(self.mode));
-        1 + larger(ccd, ir)
+        acquisition_ticks(
+            self.mode,
+            self.irdelay,
+            self.irexpo,
+            self.ccddelay,
+            self.ccdexpo,
+        )
     }
 }
 

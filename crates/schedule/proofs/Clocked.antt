@@ -23,7 +23,7 @@ use Rattle.head.proofs.Ticks.{ticks-settings}
 use Rattle.plan.specs.Words.{Item}
 use Rattle.schedule.specs.Earliest.{delayOf}
 use Rattle.schedule.specs.Schedule.{following, readied, spanOf, sent, scheduleFrom}
-use Rattle.schedule.specs.Clock.{waitOf, clockOf, tickFor, lengthAt, spanAt, clockAfter, clockPaused, clockedFrom}
+use Rattle.schedule.specs.Clock.{waitOf, clockOf, tickFor, lengthAt, spanAt, clockAfter, clockPaused, clockedFrom, Near}
 use Rattle.schedule.specs.declared.clock.Clock.{Clock}
 use Rattle.schedule.proofs.InTurn.{Step, InTurn, empty, given, paused, word-kind, word-bits}
 use Rattle.schedule.proofs.Ready.{Idle, idle-ticks, ticks-motion, is-start, is-hk, delay-wait, readied-ticks, readied-idle, told-head, sent-idle}
@@ -150,17 +150,6 @@ clocked {n} (given {is = is} k b fine turn r) s i c a =
     (ap (following (tickFor c k) (wordOf k b))
     (clocked r (sent s (wordOf k b)) (sent-idle k b n fine turn s i) (clockAfter c k b) (at-after k b n fine turn s i c a)))
 clocked {n} (paused {is = is} m r) s i c a = clocked r (ticksOf m s) (idle-ticks m s n i) (clockPaused c m) (at-paused m c s (i .ranged) a)
-
--- the clock is at most n, and what moves then is at rest soon: its numbers fit
-pub record Near (n : ℕ) (c : Clock) : Type 0 where
-  pub now : c .now ≤ n
-  pub mirror : c .mirror ≤ n + 2025
-  pub cover : c .cover ≤ n + 2025
-  pub mode : c .mode ≤ 1
-  pub irdelay : c .irdelay ≤ 1023
-  pub irexpo : c .irexpo ≤ 1023
-  pub ccddelay : c .ccddelay ≤ 1023
-  pub ccdexpo : c .ccdexpo ≤ 1023
 
 pub near-first : (s : Head) (t : ℕ) → inRange s ≡ true → Near t (clockOf s t)
 unfolding clockOf

@@ -3,3 +3,4 @@ pub mod Orders
 pub mod Ready
 pub mod Clocked
 pub mod Plans
+pub mod Advance

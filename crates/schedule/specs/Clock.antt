@@ -1,19 +1,34 @@
 -- Document 01, "Plans": the clock, advanced word by word with sums and maxima alone. It gives the ticks and the end that the head's own
 -- answers and ticks give.
 -- Assumes nothing.
-use Prim.Native.Nat.{ℕ, _+_, _*_, max}
+use Prim.Native.Nat.{ℕ, _+_, _*_, _≤_, max}
 use mathlib.Core.Bool.{cond, _&&_, _||_}
 use mathlib.Core.List.{List, [], _∷_}
 use lib.Dec.{eqb}
 use Rattle.words.specs.Fields.{steps}
 use Rattle.words.specs.Kinds as kind
 use Rattle.words.specs.Kinds.{kindOf, identifier, bitsOf}
-use Rattle.head.specs.Limits.{mirrorTicks, coverStepTicks, hkTicks, stepTicks, ccdReadout, readoutOf}
+use Rattle.head.specs.Limits.{mirrorTicks, coverStepTicks, hkTicks, lengthBy}
 use Rattle.head.specs.declared.state.Motion.{Motion}
 use Rattle.head.specs.declared.state.Head.{Head}
 use Rattle.plan.specs.Words.{Item, send, pause}
 use Rattle.schedule.specs.Schedule.{Schedule, following}
 use Rattle.schedule.specs.declared.clock.Clock.{Clock}
+
+-- The clock stands at n or before, what moves then is at rest soon, and its settings are in range: its numbers fit.
+pub record Near (n : ℕ) (c : Clock) : Type 0 where
+  pub now : c .now ≤ n
+  pub mirror : c .mirror ≤ n + 2025
+  pub cover : c .cover ≤ n + 2025
+  pub mode : c .mode ≤ 1
+  pub irdelay : c .irdelay ≤ 1023
+  pub irexpo : c .irexpo ≤ 1023
+  pub ccddelay : c .ccddelay ≤ 1023
+  pub ccdexpo : c .ccdexpo ≤ 1023
+
+-- The end is the last clock, at most 4,194,240.
+abbrev pub latest : ℕ
+latest = 4194240
 
 -- How many ticks pass before a word of kind k may go to an idle head: START waits until both motions are 0, COVER until the cover's is.
 unfoldable pub waitOf : ℕ → Motion → ℕ
@@ -41,8 +56,8 @@ tickFor c k =
 
 -- The length of an acquisition under the clock's settings.
 unfoldable pub lengthAt : Clock → ℕ
-lengthAt c =
-    1 + max (stepTicks * (c .ccddelay + c .ccdexpo) + ccdReadout) (stepTicks * (c .irdelay + c .irexpo) + readoutOf (c .mode))
+unfolding lengthBy
+lengthAt c = lengthBy (c .mode) (c .irdelay) (c .irexpo) (c .ccddelay) (c .ccdexpo)
 
 -- From the tick of a word to the clock after it.
 unfoldable pub spanAt : Clock → ℕ → ℕ
