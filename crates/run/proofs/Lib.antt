@@ -1,2 +1,4 @@
 pub mod Segments
 pub mod Meaning
+pub mod Quiet
+pub mod Whole

@@ -1,0 +1,71 @@
+-- Moments without a word add nothing to what a run does, and while an acquisition lasts nothing moves and no setting changes.
+-- Assumes nothing.
+use mathlib.Core.Path.{_≡_, refl}
+use mathlib.Core.Bool.{true}
+use mathlib.Core.List.{List, _++_}
+use mathlib.Core.Option.{Option, none, some}
+use Prim.Native.Nat.{ℕ, zero, suc}
+use native.Mathlib.Nat.{zero-sub}
+use native.Mathlib.Omega.{arith}
+use borrow.Author.Tests.{eqb-true}
+use lib.Dec.{eqb}
+use Rattle.words.proofs.Tests.{and-left, and-right}
+use Rattle.head.specs.Range.{inRange}
+use Rattle.head.specs.Tick.{tickOf, ticksOf}
+use Rattle.head.specs.declared.state.Settings.{Settings}
+use Rattle.head.specs.declared.state.Head.{Head}
+use Rattle.head.proofs.Keep.{tick-keeps}
+use Rattle.head.proofs.Ticks.{ticks-settings}
+use Rattle.schedule.specs.Earliest.{atRest}
+use Rattle.schedule.specs.Schedule.{Timed}
+use Rattle.schedule.proofs.Ready.{ticks-motion}
+use Rattle.run.specs.Run.{Moment, momentLog, logOf, momentsOf, headAfter}
+use Rattle.run.specs.Claim.{givenIn, AllObeyed, Resting, Held, StartsHeld}
+use Rattle.run.proofs.Segments.{quiet}
+
+-- there is no word in such a moment
+nothing : {A : Type 0} (w : ℕ) → _≡_ {A = Option ℕ} none (some w) → A
+nothing w e = let z : _≡_ {A = ℕ} 0 1 = cc in absurd (omega arith)
+
+module _ (ms : List Moment) where
+  pub quiet-log : (n : ℕ) (s : Head) → logOf (quiet n s ++ ms) ≡ logOf ms
+  unfolding quiet logOf momentLog
+  quiet-log zero s = refl
+  quiet-log (suc n) s = quiet-log n (tickOf s .head)
+
+  pub quiet-given : (n : ℕ) (s : Head) → givenIn (quiet n s ++ ms) ≡ givenIn ms
+  unfolding quiet givenIn
+  quiet-given zero s = refl
+  quiet-given (suc n) s = quiet-given n (tickOf s .head)
+
+  pub quiet-obeyed : (n : ℕ) (s : Head) → AllObeyed ms → AllObeyed (quiet n s ++ ms)
+  unfolding quiet
+  quiet-obeyed zero s h = h
+  quiet-obeyed (suc n) s h = (λ w e. nothing w e, quiet-obeyed n (tickOf s .head) h)
+
+  module _ (last : Head) where
+    pub quiet-starts : (n : ℕ) (s : Head) → StartsHeld ms last → StartsHeld (quiet n s ++ ms) last
+    unfolding quiet
+    quiet-starts zero s h = h
+    quiet-starts (suc n) s h = (λ e. nothing 0x8000 e, quiet-starts n (tickOf s .head) h)
+
+-- a head at rest stays so, and ticks change no setting
+pub rest-ticks : (r : Settings) (n : ℕ) (s : Head) → inRange s ≡ true → Resting r s → Resting r (ticksOf n s)
+unfolding atRest
+rest-ticks r n s h p =
+    let m = eqb-true (s .motion .mirror) 0 (and-left (eqb (s .motion .mirror) 0) (eqb (s .motion .cover) 0) (p .0)) in
+    let c = eqb-true (s .motion .cover) 0 (and-right (eqb (s .motion .mirror) 0) (eqb (s .motion .cover) 0) (p .0)) in
+    (rw (ticks-motion n s h, m, c, zero-sub n), rw (ticks-settings n s h) (p .1))
+
+module _ (r : Settings) (ms : List Moment) (last : Head) (then : Held r ms last) where
+  pub quiet-held : (n : ℕ) (s : Head) → inRange s ≡ true → Resting r s → Held r (quiet n s ++ ms) last
+  unfolding quiet ticksOf
+  quiet-held zero s h p = then
+  quiet-held (suc n) s h p = (p, λ busy. quiet-held n (tickOf s .head) (tick-keeps s h) (rest-ticks r 1 s h p))
+
+-- an idle head need be held no longer
+pub held-idle : (r : Settings) (n t : ℕ) (l : List Timed) (s : Head) → s .work .busy ≡ 0 → Resting r s
+    → Held r (momentsOf n t l s) (headAfter n t l s)
+unfolding momentsOf headAfter
+held-idle r zero t l s idle p = p
+held-idle r (suc n) t l s idle p = (p, λ busy. absurd (busy idle))
