@@ -2,3 +2,4 @@ pub mod Segments
 pub mod Meaning
 pub mod Quiet
 pub mod Whole
+pub mod Accepted
