@@ -2,10 +2,10 @@
 -- nothing moves and no setting changes.
 -- Assumes nothing.
 use mathlib.Core.Path.{_≡_, refl, sym, _∙_, ap}
-use mathlib.Core.Bool.{Bool, true, false, cond, not, _||_}
+use mathlib.Core.Bool.{true, false, not, _||_}
 use mathlib.Core.List.{List, [], _∷_, _++_, map}
 use mathlib.Core.Option.{none, some}
-use Prim.Native.Nat.{ℕ, suc, _+_, _-_, _<_, _≤_}
+use Prim.Native.Nat.{ℕ, suc, _+_, _-_, _<_}
 use native.Mathlib.Nat.{sub-self, sub-zero}
 use native.Mathlib.Omega.{arith}
 use borrow.Author.Tests.{eqb-true, eq-eqb}
@@ -15,23 +15,21 @@ use Rattle.words.specs.Kinds.{allowed}
 use Rattle.words.specs.Codec.{wordOf}
 use Rattle.words.proofs.Tests.{and-right}
 use Rattle.head.specs.Range.{inRange}
-use Rattle.head.specs.Limits.{lengthOf}
 use Rattle.head.specs.Apply.{after, settingsAfter, motionAfter, actOf}
 use Rattle.head.specs.Word.{outOfTurn, answerOf}
 use Rattle.head.specs.Tick.{tickOf, ticksOf}
 use Rattle.head.specs.declared.state.Head.{Head}
-use Rattle.head.proofs.Bounds.{bounds, length-bounds}
 use Rattle.head.proofs.Keep.{word-keeps, tick-keeps}
 use Rattle.head.proofs.Ticks.{ticks-settings}
 use Rattle.plan.specs.Words.{Item, itemsOfAll}
 use Rattle.plan.specs.declared.order.Order.{Order}
-use Rattle.schedule.specs.Earliest.{isTaken, atRest, startWord, hkWord, ready, delayOf}
+use Rattle.schedule.specs.Earliest.{isTaken, atRest, startWord, ready, delayOf}
 use Rattle.schedule.specs.Schedule.{Timed, readied, spanOf, sent, scheduleFrom}
 use Rattle.schedule.specs.Translate.{fit}
 use Rattle.schedule.proofs.InTurn.{Step, word, wait, InTurn, empty, given, paused}
 use Rattle.schedule.proofs.Orders.{AllFit}
 use Rattle.schedule.proofs.Ready.{Idle, idle-ticks, is-start, readied-idle, readied-ready, readied-taken, told-head, sent-idle}
-use Rattle.schedule.proofs.Plans.{fit-idle}
+use Rattle.schedule.proofs.Plans.{fit-idle, span-bounds}
 use Rattle.run.specs.Run.{wordAt, Moment, momentsOf, headAfter, entryOf, entriesOf, momentLog, logOf}
 use Rattle.run.specs.Claim.{givenIn, Obeyed, AllObeyed, Resting, Held, StartsHeld, WholeRun}
 use Rattle.run.proofs.Segments.{Silent, moments-add, head-add, quiet, quiet-moments, quiet-head, none-before, ends-later, word-moments, word-head}
@@ -87,15 +85,6 @@ module _ (s : Head) (k b : ℕ) (e : k ≡ kind.start) where
   start-motion : motionAfter s k b ≡ s .motion
   unfolding motionAfter
   start-motion = rw e
-
-span-some : (s : Head) (w : ℕ) → inRange s ≡ true → 1 ≤ spanOf s w
-unfolding spanOf
-span-some s w h = go (eqb w startWord) (eqb w hkWord)
-  where
-    go : (x y : Bool) → 1 ≤ cond x (lengthOf (s .settings)) (cond y 3 1)
-    go true y = let l = length-bounds (s .settings) (bounds s h .settings) in omega arith
-    go false true = omega arith
-    go false false = omega arith
 
 -- a word of kind k with data b, in turn, for a head that is idle
 module _ (k b c : ℕ) (fine : allowed k b ≡ true) (turn : outOfTurn c k ≡ false) (s : Head) (i : Idle s c) where
@@ -204,7 +193,7 @@ module _ (k b c : ℕ) (fine : allowed k b ≡ true) (turn : outOfTurn c k ≡ f
     q = spanOf t w - 1
 
     one-less : suc q ≡ spanOf t w
-    one-less = let m = span-some t w ranged in omega arith
+    one-less = let m = span-bounds t w ranged in omega arith
 
     later-still : (v : ℕ) → v < u + delayOf s w + suc q → wordAt xs v ≡ none
     later-still v h = later v (rw one-less at h)

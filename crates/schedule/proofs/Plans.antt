@@ -19,7 +19,7 @@ use Rattle.head.proofs.Bounds.{bounds, length-bounds}
 use Rattle.plan.specs.Words.{Item, itemsOfAll}
 use Rattle.plan.specs.declared.order.Order.{Order}
 use Rattle.schedule.specs.Earliest.{atRest, delayOf, startWord, hkWord}
-use Rattle.schedule.specs.Schedule.{readied, spanOf, sent, scheduleFrom, Earliest}
+use Rattle.schedule.specs.Schedule.{Timed, readied, spanOf, sent, scheduleFrom, Earliest}
 use Rattle.schedule.specs.Clock.{clockOf, clockedFrom}
 use Rattle.schedule.specs.Translate.{fit}
 use Rattle.schedule.proofs.InTurn.{Step, word, wait, InTurn, empty, given, paused}
@@ -91,12 +91,13 @@ count-is (given k b fine turn r) s t =
     omega arith
 count-is (paused m r) s t = count-is r (ticksOf m s) (t + m)
 
-span-most : (s : Head) (w : ℕ) → inRange s ≡ true → spanOf s w ≤ 4238
+-- from the tick of a word to the clock after it
+pub span-bounds : (s : Head) (w : ℕ) → inRange s ≡ true → (1 ≤ spanOf s w) × (spanOf s w ≤ 4238)
 unfolding spanOf
-span-most s w h = go (eqb w startWord) (eqb w hkWord)
+span-bounds s w h = go (eqb w startWord) (eqb w hkWord)
   where
-    go : (x y : Bool) → cond x (lengthOf (s .settings)) (cond y 3 1) ≤ 4238
-    go true y = length-bounds (s .settings) (bounds s h .settings) .1
+    go : (x y : Bool) → (1 ≤ cond x (lengthOf (s .settings)) (cond y 3 1)) × (cond x (lengthOf (s .settings)) (cond y 3 1) ≤ 4238)
+    go true y = let l = length-bounds (s .settings) (bounds s h .settings) in omega arith
     go false true = omega arith
     go false false = omega arith
 
@@ -109,12 +110,37 @@ end-within {n} (given k b fine turn r) s i t =
     let m = bounds s (i .ranged) .motion in
     let d = delay-wait k b n fine turn s i in
     let l = wait-most k (s .motion) (m .mirror) (m .cover) in
-    let p = span-most (readied s w) w (readied-idle k b n fine turn s i .ranged) in
+    let p = span-bounds (readied s w) w (readied-idle k b n fine turn s i .ranged) in
     let rest = end-within r (sent s w) (sent-idle k b n fine turn s i) (t + delayOf s w + spanOf (readied s w) w) in
     omega arith
 end-within {n} (paused m r) s i t =
     let rest = end-within r (ticksOf m s) (idle-ticks m s n i) (t + m) in
     omega arith
+
+-- ticks from t on, each later than the one before and the last before the end
+abbrev pub Rising : ℕ → List Timed → ℕ → Type 0
+Rising t [] end = t ≤ end
+Rising t (x ∷ xs) end = (t ≤ x .tick) × Rising (x .tick + 1) xs end
+
+rising-from : (t u : ℕ) (l : List Timed) (end : ℕ) → t ≤ u → Rising u l end → Rising t l end
+rising-from t u [] end h r = omega arith
+rising-from t u (x ∷ xs) end h r = (omega (arith, r .0), r .1)
+
+pub rising : {n : ℕ} {is : List Item} {ms : List Step} → InTurn n is ms → (s : Head) → Idle s n → (t : ℕ)
+    → Rising t (scheduleFrom s t is .list) (scheduleFrom s t is .end)
+unfolding scheduleFrom
+rising empty s i t = omega arith
+rising {n} (given {is = is} k b fine turn r) s i t =
+    let w = wordOf k b in
+    let u = t + delayOf s w + spanOf (readied s w) w in
+    let p = span-bounds (readied s w) w (readied-idle k b n fine turn s i .ranged) in
+    let rest = scheduleFrom (sent s w) u is in (
+      omega arith,
+      rising-from (t + delayOf s w + 1) u (rest .list) (rest .end) (omega arith) (rising r (sent s w) (sent-idle k b n fine turn s i) u),
+    )
+rising {n} (paused {is = is} m r) s i t =
+    let rest = scheduleFrom (ticksOf m s) (t + m) is in
+    rising-from t (t + m) (rest .list) (rest .end) (omega arith) (rising r (ticksOf m s) (idle-ticks m s n i) (t + m))
 
 module _ (s : Head) (h : fit s ≡ true) where
   pub fit-idle : Idle s (s .begun .count)
@@ -137,6 +163,9 @@ module _ (s : Head) (h : fit s ≡ true) where
     pub plan-clocked : scheduleFrom s 0 (itemsOfAll os) ≡ clockedFrom (clockOf s 0) (itemsOfAll os)
     unfolding clockOf
     plan-clocked = clocked turn s fit-idle (clockOf s 0) (at-first s 0)
+
+    pub plan-rising : Rising 0 (scheduleFrom s 0 (itemsOfAll os) .list) (scheduleFrom s 0 (itemsOfAll os) .end)
+    plan-rising = rising turn s fit-idle 0
 
     pub plan-count : length os ≤ 64 → length (scheduleFrom s 0 (itemsOfAll os) .list) ≤ 256
     plan-count l = let m = plan-steps os all .holds .0 in omega (arith, count-is turn s 0)
