@@ -1,13 +1,16 @@
 -- How the code judges the fields of an order, and what an order whose fields fit says of them.
 -- Assumes nothing.
-use mathlib.Core.Path.{_≡_, refl, sym, ap, _∙_}
-use mathlib.Core.Bool.{Bool, true, false, cond, _&&_, _||_, and-true}
+use mathlib.Core.Path.{_≡_, subst}
+use mathlib.Core.Bool.{Bool, true, false, cond, _&&_, _||_, and-true, false≢true}
 use mathlib.Core.List.{List, [], _∷_}
 use Prim.Native.Nat.{ℕ, _+_, _<_, _≤_}
+use native.Mathlib.Decide.{ℕ-discrete}
 use native.Mathlib.Omega.{arith}
-use borrow.Author.Tests.{eq-eqb, ne-eqb}
+use borrow.Author.Tests.{eq-eqb, ne-eqb, leb-true}
+use lib.Arith.{lt-of-le-ne}
 use lib.Dec.{leb, eqb}
 use lib.ListN.{length, getD}
+use Rattle.words.proofs.Tests.{and-left, and-right}
 use Rattle.plan.specs.Codes.{Range, _to_, rows, rowOf, rangeOf, holds, within, fieldsOf, related, fieldsFit, known, fit, window, mirror}
 use Rattle.plan.specs.declared.order.Order.{Order}
 use Rattle.plan.proofs.Rows.{few, holds-any}
@@ -48,3 +51,52 @@ pub fields-fit-each : (o : Order) (a b c d r : Bool)
 unfolding rows rangeOf fieldsFit
 fields-fit-each o a b c d r fa fb fc fd ia ib ic id ir =
     rw (ia, ib, ic, id, ir, within-each (o .a) (o .b) (o .c) (o .d) fa fb fc fd (rowOf (o .code) .fields) (few (o .code)))
+
+-- what holds of each of the codes holds of every known one
+from : (P : ℕ → Type 0) (c n : ℕ) → P n → (n < c → P c) → n ≤ c → P c
+from P c n here later h = go (ℕ-discrete n c)
+  where
+    go : Dec (n ≡ c) → P c
+    go (yes e) = subst P e here
+    go (no ne) = later (lt-of-le-ne h ne)
+
+module _ (P : ℕ → Type 0)
+    (p1 : P 1) (p2 : P 2) (p3 : P 3) (p4 : P 4) (p5 : P 5) (p6 : P 6)
+    (p7 : P 7) (p8 : P 8) (p9 : P 9) (p10 : P 10) (p11 : P 11) (p12 : P 12)
+    (p13 : P 13) (p14 : P 14) (p15 : P 15) (p16 : P 16) (p17 : P 17) where
+  pub by-code : (c : ℕ) → known c ≡ true → P c
+  unfolding known
+  by-code c k =
+      let most = leb-true c 17 (and-right (leb 1 c) (leb c 17) k) in
+      from P c 1 p1 (from P c 2 p2 (from P c 3 p3 (from P c 4 p4 (from P c 5 p5 (from P c 6 p6 (from P c 7 p7 (from P c 8 p8
+      (from P c 9 p9 (from P c 10 p10 (from P c 11 p11 (from P c 12 p12 (from P c 13 p13 (from P c 14 p14 (from P c 15 p15
+      (from P c 16 p16 (from P c 17 p17 (λ (past : 17 < c). absurd (omega arith))))))))))))))))))
+      (leb-true 1 c (and-left (leb 1 c) (leb c 17) k))
+
+-- each value is between the bounds of its range
+abbrev pub Bounds : List Range → List ℕ → Type 0
+Bounds [] vs = Unit {0}
+Bounds (r ∷ rs) [] = ⊥
+Bounds (r ∷ rs) (v ∷ vs) = (r .least ≤ v) × (v ≤ r .greatest) × Bounds rs vs
+
+within-bounds : (rs : List Range) (vs : List ℕ) → within rs vs ≡ true → Bounds rs vs
+unfolding within
+within-bounds [] vs e = tt
+within-bounds (r ∷ rs) [] e = false≢true e
+within-bounds (r ∷ rs) (v ∷ vs) e =
+    let here = and-left (holds r v) (within rs vs) e in (
+      leb-true (r .least) v (and-left (leb (r .least) v) (leb v (r .greatest)) here),
+      leb-true v (r .greatest) (and-right (leb (r .least) v) (leb v (r .greatest)) here),
+      within-bounds rs vs (and-right (holds r v) (within rs vs) e),
+    )
+
+-- what an order whose fields fit says of them; at a code it computes to the bounds of the code's fields
+module _ (o : Order) (fits : fieldsFit o ≡ true) where
+  pub fit-bounds : Bounds (rowOf (o .code) .fields) (fieldsOf o)
+  unfolding fieldsFit
+  fit-bounds =
+      within-bounds (rowOf (o .code) .fields) (fieldsOf o) (and-left (within (rowOf (o .code) .fields) (fieldsOf o)) (related o) fits)
+
+  pub fit-related : related o ≡ true
+  unfolding fieldsFit
+  fit-related = and-right (within (rowOf (o .code) .fields) (fieldsOf o)) (related o) fits

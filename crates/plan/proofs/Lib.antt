@@ -2,3 +2,5 @@ pub mod Rows
 pub mod Fit
 pub mod Bytes
 pub mod Judging
+pub mod OrderWords
+pub mod Sending

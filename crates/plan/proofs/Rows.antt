@@ -5,6 +5,7 @@ use mathlib.Core.Bool.{Bool, true, false, cond, _&&_}
 use mathlib.Core.List.{List, [], _∷_}
 use Prim.Native.Nat.{ℕ, _+_, _-_, _*_, _<_, _≤_, _/_, _%_}
 use native.Mathlib.Decide.{decLe}
+use native.Mathlib.Nat.{le-of-lt, mul-le-mul}
 use native.Mathlib.Omega.{arith}
 use borrow.Author.Tests.{le-leb, lt-leb}
 use lib.Arith.{digits-div, digits-mod}
@@ -12,8 +13,18 @@ use lib.Dec.{T, leb, leb·zero}
 use lib.ListN.{length, getD, List·getD-eq-default}
 use mir.Syntax.{w64}
 use mir.Val.{Fits}
+use mir.Facts.{fits-le, fits-lit}
 use Rattle.words.proofs.Tables.{agree, agree-at, tabulates, tabulates-at}
 use Rattle.plan.specs.Codes.{Range, _to_, Row, b, rows, rowOf, placeOf, countOf, widthOf, lengthOf, rangeOf, holds}
+
+-- a table of eighteen rows of four holds the function's values
+abbrev pub tabulates4 : List (List ℕ) → (ℕ → ℕ → ℕ) → Bool
+tabulates4 t g = agree (λ j. getD (getD t (j / 4) []) (j % 4) 0) (λ j. g (j / 4) (j % 4)) 72
+
+pub tabulates4-at : (t : List (List ℕ)) (g : ℕ → ℕ → ℕ) → T (tabulates4 t g) → (k i : ℕ) → k < 18 → i < 4 → getD (getD t k []) i 0 ≡ g k i
+tabulates4-at t g ok k i hk hi =
+    rw (digits-div k {m = 4} hi, digits-mod k {m = 4} hi)
+    at (agree-at (λ j. getD (getD t (j / 4) []) (j % 4) 0) (λ j. g (j / 4) (j % 4)) 72 ok (k * 4 + i) (omega arith))
 
 -- the two ways to a code's place
 pub place-code : (code : ℕ) → code ≤ 17 → code ≡ placeOf code
@@ -24,14 +35,17 @@ pub place-none : (code : ℕ) → 17 < code → 0 ≡ placeOf code
 unfolding placeOf
 place-none code h = rw (lt-leb code 17 h)
 
--- the row at a code's place is the code's
+-- of eighteen rows, the first of them empty, the one at a code's place is the code's
+pub place-at : {A : Type 0} (t : List A) (none : A) → length t ≡ 18 → getD t 0 none ≡ none → (code : ℕ) → getD t (placeOf code) none ≡ getD t code none
+place-at t none long first code = go (decLe code 17)
+  where
+    go : Dec (code ≤ 17) → getD t (placeOf code) none ≡ getD t code none
+    go (yes h) = rw (← place-code code h)
+    go (no h) = rw (← place-none code (omega arith), List·getD-eq-default t none {n = code} (omega arith)) first
+
 place-row : (code : ℕ) → rowOf (placeOf code) ≡ rowOf code
 unfolding rows
-place-row code = go (decLe code 17)
-  where
-    go : Dec (code ≤ 17) → rowOf (placeOf code) ≡ rowOf code
-    go (yes h) = rw (← place-code code h)
-    go (no h) = rw (← place-none code (omega arith), List·getD-eq-default rows (b []) {n = code} (omega arith))
+place-row = place-at rows (b []) refl refl
 
 place-below : (code : ℕ) → placeOf code < 18
 place-below code = go (decLe code 17)
@@ -49,8 +63,8 @@ module _ (code p : ℕ) (is : p ≡ placeOf code) where
   pub place-index : p < 18
   place-index = omega (arith, place-below code)
 
-  pub place-fits : Fits w64 (p * 8)
-  place-fits = record { fits = omega (arith, place-below code) }
+  pub place-fits : (size : ℕ) → size ≤ 8 → Fits w64 (p * size)
+  place-fits size h = fits-le (mul-le-mul (le-of-lt place-index) h) (fits-lit tt)
 
   pub count-by : (t : List ℕ) → T (tabulates t countOf 18) → getD t p 0 ≡ countOf code
   unfolding countOf
@@ -60,18 +74,13 @@ module _ (code p : ℕ) (is : p ≡ placeOf code) where
   unfolding widthOf
   width-by t ok = rw is (row-by t (λ r. r .width) code ok)
 
-  -- a table of rows of four gives what each range says
-  range-by : (t : List (List ℕ)) (g : Range → ℕ) (i : ℕ) → i < 4
-      → T (agree (λ j. getD (getD t (j / 4) []) (j % 4) 0) (λ j. g (rangeOf (j / 4) (j % 4))) 72)
-      → getD (getD t p []) i 0 ≡ g (rangeOf code i)
+  -- tables of the least and the greatest values decide what a field may hold
+  range-by : (t : List (List ℕ)) (g : Range → ℕ) (i : ℕ) → i < 4 → T (tabulates4 t (λ k j. g (rangeOf k j))) → getD (getD t p []) i 0 ≡ g (rangeOf code i)
   unfolding rangeOf
-  range-by t g i h ok =
-      let same = agree-at (λ j. getD (getD t (j / 4) []) (j % 4) 0) (λ j. g (rangeOf (j / 4) (j % 4))) 72 ok (p * 4 + i) (omega (arith, place-below code)) in
-      rw (← place-row code, ← is) (rw (digits-div p {m = 4} h, digits-mod p {m = 4} h) at same)
+  range-by t g i h ok = rw (← place-row code, ← is) (tabulates4-at t (λ k j. g (rangeOf k j)) ok p i place-index h)
 
   pub holds-by : (least greatest : List (List ℕ)) (i v : ℕ) → i < 4
-      → T (agree (λ j. getD (getD least (j / 4) []) (j % 4) 0) (λ j. rangeOf (j / 4) (j % 4) .least) 72)
-      → T (agree (λ j. getD (getD greatest (j / 4) []) (j % 4) 0) (λ j. rangeOf (j / 4) (j % 4) .greatest) 72)
+      → T (tabulates4 least (λ k j. rangeOf k j .least)) → T (tabulates4 greatest (λ k j. rangeOf k j .greatest))
       → (leb (getD (getD least p []) i 0) v && leb v (getD (getD greatest p []) i 0)) ≡ holds (rangeOf code i) v
   holds-by least greatest i v h lo hi =
       rw (range-by least (λ r. r .least) i h lo, range-by greatest (λ r. r .greatest) i h hi)

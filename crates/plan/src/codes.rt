@@ -134,7 +134,7 @@ pub fn is_known(code: u8) -> bool
 }
 
 // The row of a code in the tables.
-fn place_of(code: u8) -> usize
+pub fn place_of(code: u8) -> usize
     ensures { λ r. ⌜ r ≡ placeOf code ⌝ }
 {
     if code <= WAIT { code as usize } else { 0 }

@@ -1,4 +1,5 @@
-// Stored plans: their orders, read from bytes (document 01, "Plans").
+// Stored plans: their orders, read from bytes, and the words of an order (document 01, "Plans").
 pub mod codes;
+pub mod encoding;
 pub mod order;
 pub mod stored;
