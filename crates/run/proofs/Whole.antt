@@ -78,12 +78,12 @@ done-paused n m t l s st ws silent h d =
 
 -- START sets no register and starts no motion
 module _ (s : Head) (k b : ℕ) (e : k ≡ kind.start) where
-  start-settings : settingsAfter s k b ≡ s .settings
-  unfolding settingsAfter
+  start-settings : after s k b .settings ≡ s .settings
+  unfolding after
   start-settings = rw e
 
-  start-motion : motionAfter s k b ≡ s .motion
-  unfolding motionAfter
+  start-motion : after s k b .motion ≡ s .motion
+  unfolding after
   start-motion = rw e
 
 -- a word of kind k with data b, in turn, for a head that is idle
@@ -135,7 +135,7 @@ module _ (k b c : ℕ) (fine : allowed k b ≡ true) (turn : outOfTurn c k ≡ f
         (rw (eq-eqb w startWord e) at r, refl)
 
     rest-told : Resting (t .settings) (answerOf t w .head)
-    unfolding atRest after
+    unfolding atRest
     rest-told =
         rw (told-head k b c fine turn s i, start-settings t k b is-kind, start-motion t k b is-kind) rest-first
 
