@@ -117,7 +117,14 @@ does =
       annealing = λ a b c d. record { settings = λ x. refl; log = λ x. refl };
       mirror = λ a b c d. record { settings = λ x. rw (div-add-mod' (sineRegister a) 256, div-add-mod' b 256); log = λ x. refl };
       motor = λ a b c d. record { settings = λ x. refl; log = λ x. refl };
-      cover = λ a b c d p q r s. record { settings = λ x. rw (cover-direction a b c d p q r s); log = λ x. rw (cover-direction a b c d p q r s, cover-wave a b c d p q r s, cover-sensors a b c d p q r s, cover-steps a b c d p q r s) };
+      cover =
+          λ a b c d p q r s.
+          record {
+            settings = λ x. rw (cover-direction a b c d p q r s);
+            log =
+                λ x.
+                rw (cover-direction a b c d p q r s, cover-wave a b c d p q r s, cover-sensors a b c d p q r s, cover-steps a b c d p q r s);
+          };
       expose = λ a b c d. record { settings = λ x. refl; log = λ x. refl };
       housekeeping = λ a b c d. record { settings = λ x. refl; log = λ x. refl };
       wait = λ a b c d p. record { settings = λ x. refl; log = λ x. refl };

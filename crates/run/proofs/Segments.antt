@@ -146,7 +146,14 @@ module _ (t d q w : ℕ) (xs : List Timed) (s : Head) (later : (u : ℕ) → u <
     unfolding next answered ticksOf
     after-word =
         let first = tickOf after .head in
-        rw (suc-add q n, head-step l (q + n) (t + d) before, here, head-add l q n (t + d + 1) first, quiet-head l q (t + d + 1) first silent-last, regroup (t + d) q)
+        rw (
+          suc-add q n,
+          head-step l (q + n) (t + d) before,
+          here,
+          head-add l q n (t + d + 1) first,
+          quiet-head l q (t + d + 1) first silent-last,
+          regroup (t + d) q,
+        )
         (head-past x xs n (t + d + suc q) (ticksOf q first) (omega arith))
 
     pub word-head : headAfter (d + (suc q + n)) t l s ≡ headAfter n (t + d + suc q) xs (ticksOf (suc q) after)

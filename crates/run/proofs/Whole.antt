@@ -26,9 +26,9 @@ use Rattle.plan.specs.declared.order.Order.{Order}
 use Rattle.schedule.specs.Earliest.{isTaken, atRest, startWord, ready, delayOf}
 use Rattle.schedule.specs.Schedule.{Timed, readied, spanOf, sent, scheduleFrom}
 use Rattle.schedule.specs.Translate.{fit}
-use Rattle.schedule.proofs.InTurn.{Step, word, wait, InTurn, empty, given, paused}
+use Rattle.schedule.proofs.InTurn.{Step, word, wait, InTurn, empty, given, paused, is-start}
 use Rattle.schedule.proofs.Orders.{AllFit}
-use Rattle.schedule.proofs.Ready.{Idle, idle-ticks, is-start, readied-idle, readied-ready, readied-taken, told-head, sent-idle}
+use Rattle.schedule.proofs.Ready.{Idle, idle-ticks, readied-idle, readied-ready, readied-taken, told-head, sent-idle}
 use Rattle.schedule.proofs.Plans.{fit-idle, span-bounds}
 use Rattle.run.specs.Run.{wordAt, Moment, momentsOf, headAfter, entryOf, entriesOf, momentLog, logOf}
 use Rattle.run.specs.Claim.{givenIn, Obeyed, AllObeyed, Resting, Held, StartsHeld, WholeRun}
@@ -126,7 +126,7 @@ module _ (k b c : ℕ) (fine : allowed k b ≡ true) (turn : outOfTurn c k ≡ f
   -- from a START on
   module _ (e : w ≡ startWord) where
     is-kind : k ≡ kind.start
-    is-kind = eqb-true k kind.start (sym (is-start k b c fine turn) ∙ eq-eqb w startWord e)
+    is-kind = eqb-true k kind.start (sym (is-start k b fine) ∙ eq-eqb w startWord e)
 
     rest-first : Resting (t .settings) t
     unfolding ready
@@ -208,8 +208,13 @@ module _ (k b c : ℕ) (fine : allowed k b ≡ true) (turn : outOfTurn c k ≡ f
     run-head = rw one-less at (word-head u (delayOf s w) q w xs s later-still n)
 
     done-run : (st : List Step) (ws : List ℕ)
-        → Done (momentsOf n (u + delayOf s w + spanOf t w) xs (sent s w)) (headAfter n (u + delayOf s w + spanOf t w) xs (sent s w)) (lastingOf (sent s w)) st ws
-        → Done (momentsOf (delayOf s w + (spanOf t w + n)) u l s) (headAfter (delayOf s w + (spanOf t w + n)) u l s) (lastingOf s) (word k b ∷ st) (w ∷ ws)
+        → Done (momentsOf n (u + delayOf s w + spanOf t w) xs (sent s w)) (headAfter n (u + delayOf s w + spanOf t w) xs (sent s w))
+        (lastingOf (sent s w))
+        st
+        ws
+        → Done (momentsOf (delayOf s w + (spanOf t w + n)) u l s) (headAfter (delayOf s w + (spanOf t w + n)) u l s) (lastingOf s)
+        (word k b ∷ st)
+        (w ∷ ws)
     done-run st ws h = rw (run-moments, run-head) (done-word (delayOf s w) q n (u + delayOf s w + spanOf t w) xs st ws h)
 
 abbrev wordsIn : List Timed → List ℕ

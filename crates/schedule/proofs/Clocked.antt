@@ -25,8 +25,8 @@ use Rattle.schedule.specs.Earliest.{delayOf}
 use Rattle.schedule.specs.Schedule.{following, readied, spanOf, sent, scheduleFrom}
 use Rattle.schedule.specs.Clock.{waitOf, clockOf, tickFor, lengthAt, spanAt, clockAfter, clockPaused, clockedFrom, Near}
 use Rattle.schedule.specs.declared.clock.Clock.{Clock}
-use Rattle.schedule.proofs.InTurn.{Step, InTurn, empty, given, paused, word-kind, word-bits}
-use Rattle.schedule.proofs.Ready.{Idle, idle-ticks, ticks-motion, is-start, is-hk, delay-wait, readied-ticks, readied-idle, told-head, sent-idle}
+use Rattle.schedule.proofs.InTurn.{Step, InTurn, empty, given, paused, word-kind, word-bits, is-start, is-hk}
+use Rattle.schedule.proofs.Ready.{Idle, idle-ticks, ticks-motion, delay-wait, readied-ticks, readied-idle, told-head, sent-idle}
 
 -- the clock says what the head does from its tick on
 pub record At (c : Clock) (s : Head) : Type 0 where
@@ -103,7 +103,7 @@ module _ (k b n : ℕ) (fine : allowed k b ≡ true) (turn : outOfTurn n k ≡ f
 
   span-is : spanOf t w ≡ spanAt c k
   unfolding spanOf spanAt
-  span-is = rw (is-start k b n fine turn, is-hk k b n fine turn, settings-then, length-is c s a)
+  span-is = rw (is-start k b fine, is-hk k b fine, settings-then, length-is c s a)
 
   now-is : c .now + delayOf s w + spanOf t w ≡ clockAfter c k b .now
   unfolding clockAfter
@@ -205,8 +205,13 @@ module _ (n : ℕ) (c : Clock) (h : Near n c) where
       let l = span-near k in
       record {
         now = omega arith;
-        mirror = chosen (eqb k kind.cosL || (eqb k kind.switch && eqb b 0)) (tickFor c k + 30) (c .mirror) (n + 6263 + 2025) (λ e. omega arith) (omega arith);
-        cover = chosen (eqb k kind.cover) (tickFor c k + 25 * steps b) (c .cover) (n + 6263 + 2025) (λ e. let m = steps-most k b fine e in omega arith) (omega arith);
+        mirror =
+            chosen (eqb k kind.cosL || (eqb k kind.switch && eqb b 0)) (tickFor c k + 30) (c .mirror) (n + 6263 + 2025) (λ e. omega arith)
+            (omega arith);
+        cover =
+            chosen (eqb k kind.cover) (tickFor c k + 25 * steps b) (c .cover) (n + 6263 + 2025)
+            (λ e. let m = steps-most k b fine e in omega arith)
+            (omega arith);
         mode = plain k b fine kind.irWinMode (c .mode) (h .mode);
         irdelay = plain k b fine kind.irDelay (c .irdelay) (h .irdelay);
         irexpo = plain k b fine kind.irExpo (c .irexpo) (h .irexpo);

@@ -8,13 +8,14 @@ use native.Mathlib.Omega.{arith}
 use borrow.Author.Tests.{eqb-true, eqb-false, eq-eqb, ne-eqb}
 use lib.Dec.{eqb}
 use Rattle.words.specs.Kinds as kind
-use Rattle.words.specs.Kinds.{allowed, greatest, bitsOf}
+use Rattle.words.specs.Kinds.{rows, least, greatest, allowed, bitsOf}
 use Rattle.words.specs.Codec.{wordOf, encodeOf, decodeOf}
 use Rattle.words.specs.declared.Decoded.the-variants.{Word}
 use Rattle.words.proofs.Codec.{encode-decode, decode-read}
 use Rattle.head.specs.Word.{outOfTurn}
 use Rattle.head.proofs.Bounds.{allowed-most}
 use Rattle.plan.specs.Words.{Item, send, pause}
+use Rattle.schedule.specs.Earliest.{startWord, hkWord}
 use Rattle.schedule.specs.Clock.{kindIn}
 
 -- a word of kind k with data b, or a wait
@@ -72,3 +73,11 @@ module _ (k b : ℕ) (fine : allowed k b ≡ true) where
               let p : decodeOf (wordOf k b) ≡ Word k b = word-decoded k b fine in
               let q : decodeOf (wordOf j 0) ≡ Word j 0 = word-decoded j 0 fine-j in
               cc
+
+  pub is-start : eqb (wordOf k b) startWord ≡ eqb k kind.start
+  unfolding wordOf rows allowed least greatest
+  is-start = word-is kind.start refl refl
+
+  pub is-hk : eqb (wordOf k b) hkWord ≡ eqb k kind.hk
+  unfolding wordOf rows allowed least greatest
+  is-hk = word-is kind.hk refl refl

@@ -10,7 +10,7 @@ use native.Mathlib.Nat.{zero-sub}
 use Rattle.words.proofs.Tests.{and-left, and-right}
 use lib.Dec.{ltb, eqb}
 use Rattle.words.specs.Kinds as kind
-use Rattle.words.specs.Kinds.{allowed, rows, least, greatest}
+use Rattle.words.specs.Kinds.{allowed}
 use Rattle.words.specs.Codec.{wordOf}
 use Rattle.head.specs.Range.{inRange}
 use Rattle.head.specs.Limits.{lengthOf}
@@ -30,10 +30,10 @@ use Rattle.head.proofs.Answers.{taken}
 use Rattle.head.proofs.Keep.{word-keeps, ticks-keep}
 use Rattle.head.proofs.Ticks.{ticks-elapsed, ticks-begun}
 use Rattle.plan.specs.Words.{Item}
-use Rattle.schedule.specs.Earliest.{atRest, isTaken, startWord, hkWord, ready, delayWithin, delayOf}
+use Rattle.schedule.specs.Earliest.{atRest, isTaken, ready, delayWithin, delayOf}
 use Rattle.schedule.specs.Schedule.{readied, spanOf, sent, Earliest}
 use Rattle.schedule.specs.Clock.{waitOf}
-use Rattle.schedule.proofs.InTurn.{Step, InTurn, empty, given, paused, word-decoded, word-is, countAfter}
+use Rattle.schedule.proofs.InTurn.{Step, InTurn, empty, given, paused, word-decoded, is-start, is-hk, countAfter}
 
 -- a head in range and idle, with so many words of a mirror set begun
 pub record Idle (s : Head) (c : ℕ) : Type 0 where
@@ -123,17 +123,9 @@ module _ (k b c : ℕ) (fine : allowed k b ≡ true) (turn : outOfTurn c k ≡ f
   unfolding answerOf onDecoded onWord
   answer-idle s i = rw (i .ranged, i .idle, word-decoded k b fine, i .count, turn)
 
-  pub is-start : eqb (wordOf k b) startWord ≡ eqb k kind.start
-  unfolding wordOf rows allowed least greatest
-  is-start = word-is k b fine kind.start refl refl
-
-  pub is-hk : eqb (wordOf k b) hkWord ≡ eqb k kind.hk
-  unfolding wordOf rows allowed least greatest
-  is-hk = word-is k b fine kind.hk refl refl
-
   pub ready-free : (s : Head) → Idle s c → ready s (wordOf k b) ≡ free k (s .motion)
   unfolding ready free atRest isTaken
-  ready-free s i = rw (is-start, answer-idle s i) (go (eqb k kind.cover && ltb 0 (s .motion .cover)))
+  ready-free s i = rw (is-start k b fine, answer-idle s i) (go (eqb k kind.cover && ltb 0 (s .motion .cover)))
     where
       go : (x : Bool)
           → (isTaken (cond x (ignored s (timeIr (s .flags)) (s .begun) CoverMoving) (taken s k b) .outcome) && (not (eqb k kind.start) || atRest s))
@@ -148,7 +140,8 @@ module _ (k b c : ℕ) (fine : allowed k b ≡ true) (turn : outOfTurn c k ≡ f
       go : (x : Bool) → ready (ticksOf n s) (wordOf k b) ≡ x → x ≡ false
       go false e = refl
       go true e =
-          let f : free k (motionLeft n (s .motion)) ≡ true = rw (← ticks-motion n s (i .ranged)) (sym (ready-free (ticksOf n s) (idle-ticks n s c i)) ∙ e) in
+          let is-free = sym (ready-free (ticksOf n s) (idle-ticks n s c i)) ∙ e in
+          let f : free k (motionLeft n (s .motion)) ≡ true = rw (← ticks-motion n s (i .ranged)) is-free in
           let z = wait-falls k (s .motion) n in
           let y = free-now k (motionLeft n (s .motion)) f in
           absurd (omega arith)
@@ -173,7 +166,9 @@ module _ (k b c : ℕ) (fine : allowed k b ≡ true) (turn : outOfTurn c k ≡ f
       go true e rec = sym (free-now k (s .motion) (sym (ready-free s i) ∙ e))
       go false e rec =
           let later = idle-ticks 1 s c i in
-          let down : waitOf k (tickOf s .head .motion) ≡ waitOf k (s .motion) - 1 = rw (ticks-motion 1 s (i .ranged)) (wait-falls k (s .motion) 1) in
+          let down : waitOf k (tickOf s .head .motion) ≡ waitOf k (s .motion) - 1 =
+          rw (ticks-motion 1 s (i .ranged)) (wait-falls k (s .motion) 1)
+          in
           let some : waitOf k (s .motion) ≡ 0 → ⊥ = λ z. false≢true (sym e ∙ ready-free s i ∙ now-free k (s .motion) z) in
           let r = rec later (omega arith) in
           omega arith
@@ -200,14 +195,15 @@ module _ (k b c : ℕ) (fine : allowed k b ≡ true) (turn : outOfTurn c k ≡ f
     unfolding free
     readied-taken =
         let t = readied s (wordOf k b) in
+        let moving = eqb k kind.cover && ltb 0 (t .motion .cover) in
+        let rest = not (eqb k kind.start) || (eqb (t .motion .mirror) 0 && eqb (t .motion .cover) 0) in
         let f : free k (t .motion) ≡ true = sym (ready-free t readied-idle) ∙ readied-ready in
-        let still = not-true (eqb k kind.cover && ltb 0 (t .motion .cover)) (and-left (not (eqb k kind.cover && ltb 0 (t .motion .cover))) (not (eqb k kind.start) || (eqb (t .motion .mirror) 0 && eqb (t .motion .cover) 0)) f) in
-        rw (answer-idle t readied-idle, still)
+        rw (answer-idle t readied-idle, not-true moving (and-left (not moving) rest f))
 
   -- the span covers what the word makes the head busy with
   busy-span : (s : Head) → s .work .busy ≡ 0 → workAfter s k .busy ≤ spanOf s (wordOf k b)
   unfolding workAfter spanOf
-  busy-span s z = rw (is-start, is-hk) (go (eqb k kind.start) (eqb k kind.hk) (eqb k kind.stop))
+  busy-span s z = rw (is-start k b fine, is-hk k b fine) (go (eqb k kind.start) (eqb k kind.hk) (eqb k kind.stop))
     where
       go : (x y u : Bool)
           → cond x (record { task = Acquisition; busy = lengthOf (s .settings) })
