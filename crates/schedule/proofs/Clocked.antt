@@ -2,13 +2,13 @@
 -- Assumes nothing.
 use mathlib.Core.Path.{_≡_, refl, ap}
 use mathlib.Core.Bool.{Bool, true, false, cond, _&&_, _||_}
-use mathlib.Core.List.{List}
+use mathlib.Core.List.{List, [], _∷_, _++_}
 use Prim.Native.Nat.{ℕ, _+_, _*_, _-_, _≤_, max}
 use native.Mathlib.Omega.{arith}
 use lib.Dec.{eqb}
 use Rattle.words.specs.Fields.{steps}
 use Rattle.words.specs.Kinds as kind
-use Rattle.words.specs.Kinds.{rows, greatest, allowed}
+use Rattle.words.specs.Kinds.{rows, greatest, allowed, bitsOf}
 use Rattle.words.specs.Codec.{wordOf}
 use Rattle.head.specs.Range.{inRange}
 use Rattle.head.specs.Limits.{readoutOf, lengthOf}
@@ -20,10 +20,10 @@ use Rattle.head.specs.declared.state.Head.{Head}
 use Rattle.head.proofs.Bounds.{bounds}
 use Rattle.head.proofs.Keep.{chosen, plain, steps-most, word-keeps}
 use Rattle.head.proofs.Ticks.{ticks-settings}
-use Rattle.plan.specs.Words.{Item}
+use Rattle.plan.specs.Words.{Item, send, pause}
 use Rattle.schedule.specs.Earliest.{delayOf}
-use Rattle.schedule.specs.Schedule.{following, readied, spanOf, sent, scheduleFrom}
-use Rattle.schedule.specs.Clock.{waitOf, clockOf, tickFor, lengthAt, spanAt, clockAfter, clockPaused, clockedFrom, Near}
+use Rattle.schedule.specs.Schedule.{Timed, following, readied, spanOf, sent, scheduleFrom}
+use Rattle.schedule.specs.Clock.{waitOf, clockOf, tickFor, lengthAt, spanAt, clockAfter, clockPaused, clockedFrom, clockThrough, kindIn, Near}
 use Rattle.schedule.specs.declared.clock.Clock.{Clock}
 use Rattle.schedule.proofs.InTurn.{Step, InTurn, empty, given, paused, word-kind, word-bits, is-start, is-hk}
 use Rattle.schedule.proofs.Ready.{Idle, idle-ticks, ticks-motion, delay-wait, readied-ticks, readied-idle, told-head, sent-idle}
@@ -167,6 +167,9 @@ near-first s t h =
       ccdexpo = r .ccdexpo;
     }
 
+pub near-more : (n m : ℕ) (c : Clock) → n ≤ m → Near n c → Near m c
+near-more n m c l h = omega arith
+
 pub near-paused : (n m : ℕ) (c : Clock) → Near n c → Near (n + m) (clockPaused c m)
 unfolding clockPaused
 near-paused n m c h = omega arith
@@ -218,3 +221,18 @@ module _ (n : ℕ) (c : Clock) (h : Near n c) where
         ccddelay = plain k b fine kind.ccdDelay (c .ccddelay) (h .ccddelay);
         ccdexpo = plain k b fine kind.ccdExpo (c .ccdexpo) (h .ccdexpo);
       }
+
+-- items, and then others
+pub clocked-list : (c : Clock) (is js : List Item)
+    → clockedFrom c (is ++ js) .list ≡ clockedFrom c is .list ++ clockedFrom (clockThrough c is) js .list
+unfolding clockedFrom clockThrough
+clocked-list c [] js = refl
+clocked-list c (send w ∷ is) js =
+    ap (λ (l : List Timed). record { tick = tickFor c (kindIn w); word = w } ∷ l) (clocked-list (clockAfter c (kindIn w) (bitsOf w)) is js)
+clocked-list c (pause n ∷ is) js = clocked-list (clockPaused c n) is js
+
+pub clocked-end : (c : Clock) (is js : List Item) → clockedFrom c (is ++ js) .end ≡ clockedFrom (clockThrough c is) js .end
+unfolding clockedFrom clockThrough
+clocked-end c [] js = refl
+clocked-end c (send w ∷ is) js = clocked-end (clockAfter c (kindIn w) (bitsOf w)) is js
+clocked-end c (pause n ∷ is) js = clocked-end (clockPaused c n) is js

@@ -98,3 +98,9 @@ unfoldable pub clockedFrom : Clock → List Item → Schedule
 clockedFrom c [] = record { list = []; end = c .now }
 clockedFrom c (send w ∷ is) = following (tickFor c (kindIn w)) w (clockedFrom (clockAfter c (kindIn w) (bitsOf w)) is)
 clockedFrom c (pause n ∷ is) = clockedFrom (clockPaused c n) is
+
+-- The clock after items.
+unfoldable pub clockThrough : Clock → List Item → Clock
+clockThrough c [] = c
+clockThrough c (send w ∷ is) = clockThrough (clockAfter c (kindIn w) (bitsOf w)) is
+clockThrough c (pause n ∷ is) = clockThrough (clockPaused c n) is
