@@ -3,9 +3,10 @@
 use mathlib.Core.Path.{_≡_, refl, ap}
 use mathlib.Core.Bool.{Bool, true, false, cond, _&&_, _||_}
 use mathlib.Core.List.{List, [], _∷_, _++_}
-use Prim.Native.Nat.{ℕ, _+_, _*_, _-_, _≤_, max}
+use Prim.Native.Nat.{ℕ, _+_, _*_, _-_, _≤_, _<_, max}
+use native.Mathlib.Nat.{mod-lt}
 use native.Mathlib.Omega.{arith}
-use lib.Dec.{eqb}
+use lib.Dec.{eqb, lit<}
 use Rattle.words.specs.Fields.{steps}
 use Rattle.words.specs.Kinds as kind
 use Rattle.words.specs.Kinds.{rows, greatest, allowed, bitsOf}
@@ -18,7 +19,7 @@ use Rattle.head.specs.Tick.{ticksOf}
 use Rattle.head.specs.Ticks.{motionLeft}
 use Rattle.head.specs.declared.state.Head.{Head}
 use Rattle.head.proofs.Bounds.{bounds}
-use Rattle.head.proofs.Keep.{chosen, plain, steps-most, word-keeps}
+use Rattle.head.proofs.Keep.{chosen, word-keeps}
 use Rattle.head.proofs.Ticks.{ticks-settings}
 use Rattle.plan.specs.Words.{Item, send, pause}
 use Rattle.schedule.specs.Earliest.{delayOf}
@@ -160,7 +161,6 @@ near-first s t h =
       now = omega arith;
       mirror = omega arith;
       cover = omega arith;
-      mode = r .mode;
       irdelay = r .irdelay;
       irexpo = r .irexpo;
       ccddelay = r .ccddelay;
@@ -175,11 +175,11 @@ unfolding clockPaused
 near-paused n m c h = omega arith
 
 module _ (n : ℕ) (c : Clock) (h : Near n c) where
-  pub tick-near : (k : ℕ) → tickFor c k ≤ n + 2025
+  pub tick-near : (k : ℕ) → tickFor c k ≤ n + 3175
   unfolding tickFor
   tick-near k = go (eqb k kind.start) (eqb k kind.cover)
     where
-      go : (x y : Bool) → cond x (max (c .now) (max (c .mirror) (c .cover))) (cond y (max (c .now) (c .cover)) (c .now)) ≤ n + 2025
+      go : (x y : Bool) → cond x (max (c .now) (max (c .mirror) (c .cover))) (cond y (max (c .now) (c .cover)) (c .now)) ≤ n + 3175
       go true y = omega arith
       go false true = omega arith
       go false false = omega arith
@@ -201,25 +201,22 @@ module _ (n : ℕ) (c : Clock) (h : Near n c) where
       go false true = omega arith
       go false false = omega arith
 
-  pub near-after : (k b : ℕ) → allowed k b ≡ true → Near (n + 6263) (clockAfter c k b)
-  unfolding clockAfter greatest rows
-  near-after k b fine =
+  pub near-after : (k b : ℕ) → b < 1024 → Near (n + 7413) (clockAfter c k b)
+  unfolding clockAfter
+  near-after k b ten =
       let t = tick-near k in
       let l = span-near k in
+      let steps-most = mod-lt b {m = 128} (lit< tt) in
       record {
         now = omega arith;
         mirror =
-            chosen (eqb k kind.cosL || (eqb k kind.switch && eqb b 0)) (tickFor c k + 30) (c .mirror) (n + 6263 + 2025) (λ e. omega arith)
+            chosen (eqb k kind.cosL || (eqb k kind.switch && eqb b 0)) (tickFor c k + 30) (c .mirror) (n + 7413 + 3175) (λ e. omega arith)
             (omega arith);
-        cover =
-            chosen (eqb k kind.cover) (tickFor c k + 25 * steps b) (c .cover) (n + 6263 + 2025)
-            (λ e. let m = steps-most k b fine e in omega arith)
-            (omega arith);
-        mode = plain k b fine kind.irWinMode (c .mode) (h .mode);
-        irdelay = plain k b fine kind.irDelay (c .irdelay) (h .irdelay);
-        irexpo = plain k b fine kind.irExpo (c .irexpo) (h .irexpo);
-        ccddelay = plain k b fine kind.ccdDelay (c .ccddelay) (h .ccddelay);
-        ccdexpo = plain k b fine kind.ccdExpo (c .ccdexpo) (h .ccdexpo);
+        cover = chosen (eqb k kind.cover) (tickFor c k + 25 * steps b) (c .cover) (n + 7413 + 3175) (λ e. omega arith) (omega arith);
+        irdelay = chosen (eqb k kind.irDelay) b (c .irdelay) 1023 (λ e. omega arith) (h .irdelay);
+        irexpo = chosen (eqb k kind.irExpo) b (c .irexpo) 1023 (λ e. omega arith) (h .irexpo);
+        ccddelay = chosen (eqb k kind.ccdDelay) b (c .ccddelay) 1023 (λ e. omega arith) (h .ccddelay);
+        ccdexpo = chosen (eqb k kind.ccdExpo) b (c .ccdexpo) 1023 (λ e. omega arith) (h .ccdexpo);
       }
 
 -- items, and then others

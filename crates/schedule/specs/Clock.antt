@@ -15,12 +15,11 @@ use Rattle.plan.specs.Words.{Item, send, pause}
 use Rattle.schedule.specs.Schedule.{Schedule, following}
 use Rattle.schedule.specs.declared.clock.Clock.{Clock}
 
--- The clock stands at n or before, what moves then is at rest soon, and its settings are in range: its numbers fit.
+-- The clock stands at n or before, what moves then is at rest soon, and a delay or an exposure has ten bits: its numbers fit.
 pub record Near (n : ℕ) (c : Clock) : Type 0 where
   pub now : c .now ≤ n
-  pub mirror : c .mirror ≤ n + 2025
-  pub cover : c .cover ≤ n + 2025
-  pub mode : c .mode ≤ 1
+  pub mirror : c .mirror ≤ n + 3175
+  pub cover : c .cover ≤ n + 3175
   pub irdelay : c .irdelay ≤ 1023
   pub irexpo : c .irexpo ≤ 1023
   pub ccddelay : c .ccddelay ≤ 1023

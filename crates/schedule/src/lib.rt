@@ -1,5 +1,6 @@
 // Plans translated into timed words (document 01, "Plans").
 pub mod clock;
+pub mod put;
 
 // What translating a plan answers.
 pub enum Translated {

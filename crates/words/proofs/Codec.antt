@@ -21,25 +21,26 @@ use Rattle.words.specs.declared.Encoded.the-variants.{Made, Refused}
 use Rattle.words.proofs.Allowed.{allowed-kind, allowed-bits}
 use Rattle.words.proofs.Tables.{agree, agree-at, tabulates, tabulates-at, below, below-at}
 
--- a table of the kinds by identifier decodes: the three ways through the decoder
-module _ (t : List ℕ) (w : ℕ) (ok : T (tabulates t kindOf 64)) (h : w < 65536) where
-  at : getD t (w / 1024) 0 ≡ kindOf (w / 1024)
-  at = tabulates-at t kindOf 64 ok (w / 1024) (omega arith)
+-- a table of the kinds by identifier
+pub kind-by : (t : List ℕ) (w : ℕ) → T (tabulates t kindOf 64) → w < 65536 → getD t (w / 1024) 0 ≡ kindOf (w / 1024)
+kind-by t w ok h = tabulates-at t kindOf 64 ok (w / 1024) (omega arith)
 
-  pub decode-unknown : 28 ≤ getD t (w / 1024) 0 → Unknown ≡ decodeOf w
+-- the three ways through the decoder: k is the kind of the identifier, b whether its data are allowed
+module _ (w k : ℕ) (kind : k ≡ kindOf (identifier w)) where
+  pub decode-unknown : 28 ≤ k → Unknown ≡ decodeOf w
   unfolding decodeOf kinds
-  decode-unknown e = simp (← at, le-ltb (getD t (w / 1024) 0) 28 e)
+  decode-unknown e = simp (← kind, le-ltb k 28 e)
 
-  decoded : getD t (w / 1024) 0 < 28 → judged (getD t (w / 1024) 0) (w % 1024) ≡ decodeOf w
+  decoded : k < 28 → judged k (bitsOf w) ≡ decodeOf w
   unfolding decodeOf kinds
-  decoded e = simp (← at, lt-ltb (getD t (w / 1024) 0) 28 e)
+  decoded e = simp (← kind, lt-ltb k 28 e)
 
-  module _ (b : Bool) (e : getD t (w / 1024) 0 < 28) (is : b ≡ allowed (getD t (w / 1024) 0) (w % 1024)) where
-    pub decode-word : b ≡ true → Word (getD t (w / 1024) 0) (w % 1024) ≡ decodeOf w
+  module _ (b : Bool) (e : k < 28) (is : b ≡ allowed k (bitsOf w)) where
+    pub decode-word : b ≡ true → Word k (bitsOf w) ≡ decodeOf w
     unfolding judged
     decode-word is-true = rw (← is, is-true) at (decoded e)
 
-    pub decode-out : b ≡ false → OutOfRange (getD t (w / 1024) 0) ≡ decodeOf w
+    pub decode-out : b ≡ false → OutOfRange k ≡ decodeOf w
     unfolding judged
     decode-out is-false = rw (← is, is-false) at (decoded e)
 

@@ -5,7 +5,7 @@ use kinds::COVER;
 use kinds::KINDS;
 use kinds::MOST_STEPS;
 ghost use mathlib.Core.Path.{_≡_};
-ghost use Rattle.words.specs.Kinds.{allowed};
+ghost use Rattle.words.specs.Kinds.{allowed, identifier, kindOf};
 ghost use Rattle.words.specs.Codec.{decodeOf, encodeOf};
 
 // The kind of each identifier; 28 where no kind has it.
@@ -196,10 +196,17 @@ pub fn allows(kind: u8, bits: u16) -> bool
     (LEAST[k] <= bits) & (bits <= GREATEST[k]) & steps
 }
 
+// The kind of a word's identifier; 28 where no kind has it.
+pub fn kind_of(word: u16) -> u8
+    ensures { λ r. ⌜ r ≡ kindOf (identifier word) ⌝ }
+{
+    KIND_OF[(word / 1024) as usize]
+}
+
 pub fn decode(word: u16) -> Decoded
     ensures { λ r. ⌜ r ≡ decodeOf word ⌝ }
 {
-    let kind = KIND_OF[(word / 1024) as usize];
+    let kind = kind_of(word);
     if KINDS <= kind {
         return Decoded::Unknown;
     }
