@@ -36,6 +36,13 @@ pub order-past : (bs : List ℕ) (at : ℕ) → length bs ≤ at → record { co
 unfolding orderAt fieldAt countOf rows
 order-past bs at h = rw (← byte-past bs (at + 1) (omega arith))
 
+-- the order read field by field
+pub order-read : (bs : List ℕ) (at k a b c d : ℕ) → k ≡ byteAt bs (at + 1)
+    → a ≡ fieldAt bs (at + 2) k 0 → b ≡ fieldAt bs (at + 2) k 1 → c ≡ fieldAt bs (at + 2) k 2 → d ≡ fieldAt bs (at + 2) k 3
+    → record { code = k; a = a; b = b; c = c; d = d } ≡ orderAt bs at
+unfolding orderAt
+order-read bs at k a b c d ik ia ib ic id = rw (ia, ib, ic, id, ik)
+
 -- the ways to a fault, and the one past them all
 pub fault-none : (bs : List ℕ) (at : ℕ) → length bs ≤ at → 5 ≡ faultAt bs at
 unfolding faultAt

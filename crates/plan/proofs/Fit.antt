@@ -52,6 +52,10 @@ unfolding rows rangeOf fieldsFit
 fields-fit-each o a b c d r fa fb fc fd ia ib ic id ir =
     rw (ia, ib, ic, id, ir, within-each (o .a) (o .b) (o .c) (o .d) fa fb fc fd (rowOf (o .code) .fields) (few (o .code)))
 
+pub fit-both : (o : Order) (k f : Bool) → k ≡ known (o .code) → f ≡ fieldsFit o → (k && f) ≡ fit o
+unfolding fit
+fit-both o k f is-known is-fit = rw (is-known, is-fit)
+
 -- what holds of each of the codes holds of every known one
 from : (P : ℕ → Type 0) (c n : ℕ) → P n → (n < c → P c) → n ≤ c → P c
 from P c n here later h = go (ℕ-discrete n c)

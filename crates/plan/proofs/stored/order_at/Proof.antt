@@ -1,6 +1,5 @@
 use borrow.Author.Needs.{needs}
-use Rattle.plan.specs.Stored.{orderAt}
-use Rattle.plan.proofs.Bytes.{order-past}
+use Rattle.plan.proofs.Bytes.{order-past, order-read}
 use Rattle.plan.proofs.stored.order_at.Statement.{statement}
 use Rattle.plan.proofs.stored.order_at.Tie as tie
 
@@ -29,8 +28,7 @@ field-at-requires-4 : tie.Need-field-at-requires-4
 field-at-requires-4 c κs = search needs
 
 returns-2 : tie.Need-returns-2
-unfolding orderAt
-returns-2 c = cc
+returns-2 c = search (needs, order-read)
 
 pub order-at-spec : {M : Type 1} → statement M
 order-at-spec =

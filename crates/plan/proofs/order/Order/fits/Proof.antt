@@ -1,5 +1,5 @@
 use borrow.Author.Needs.{needs}
-use Rattle.plan.specs.Codes.{fit}
+use Rattle.plan.proofs.Fit.{fit-both}
 use Rattle.plan.proofs.order.Order.fits.Statement.{statement}
 use Rattle.plan.proofs.order.Order.fits.Tie as tie
 
@@ -10,8 +10,7 @@ fields-fit-requires : tie.Need-fields-fit-requires
 fields-fit-requires c κs = search needs
 
 returns : tie.Need-returns
-unfolding fit
-returns c = cc
+returns c = search (needs, fit-both)
 
 pub fits-spec : {M : Type 1} → statement M
 fits-spec = tie.close (tie.spec is-known-requires fields-fit-requires returns)
