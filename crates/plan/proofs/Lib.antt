@@ -4,3 +4,5 @@ pub mod Bytes
 pub mod Judging
 pub mod OrderWords
 pub mod Sending
+pub mod Accepted
+pub mod Items

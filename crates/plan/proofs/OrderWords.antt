@@ -149,3 +149,24 @@ listed-by o z count bits w0 w1 w2 w3 is-fit h is-bits is-count i0 i1 i2 i3 =
       is-bits,
       is-count,
     )
+
+-- what the words answered for an order say: their number, and each of them at its place
+pub fit-words : (o : Order) → fit o ≡ true → wordsIfFit o ≡ wordsOf o
+unfolding wordsIfFit
+fit-words o f = rw f
+
+module _ (r : Words) (ws : List ℕ) (is : r ≡ listed ws) where
+  pub listed-count : r .count ≡ length ws
+  unfolding listed
+  listed-count = rw is
+
+  pub listed-at : (i : ℕ) → i < 4 → getD (r .list) i 0 ≡ getD ws i 0
+  unfolding listed
+  listed-at i h = rw is (go i h)
+    where
+      go : (i : ℕ) → i < 4 → getD (four ws) i 0 ≡ getD ws i 0
+      go zero h = refl
+      go (suc zero) h = refl
+      go (suc (suc zero)) h = refl
+      go (suc (suc (suc zero))) h = refl
+      go (suc (suc (suc (suc i)))) h = absurd (omega arith)
