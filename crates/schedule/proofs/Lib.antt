@@ -4,3 +4,4 @@ pub mod Ready
 pub mod Clocked
 pub mod Plans
 pub mod Advance
+pub mod Laying

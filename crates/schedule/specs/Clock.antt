@@ -29,6 +29,10 @@ pub record Near (n : ℕ) (c : Clock) : Type 0 where
 abbrev pub latest : ℕ
 latest = 4194240
 
+-- Four words before the latest clock.
+abbrev pub early : ℕ
+early = 4164588
+
 -- How many ticks pass before a word of kind k may go to an idle head: START waits until both motions are 0, COVER until the cover's is.
 unfoldable pub waitOf : ℕ → Motion → ℕ
 waitOf k m = cond (eqb k kind.start) (max (m .mirror) (m .cover)) (cond (eqb k kind.cover) (m .cover) 0)

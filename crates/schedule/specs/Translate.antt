@@ -4,12 +4,15 @@ use Prim.Native.Nat.{ℕ}
 use mathlib.Core.Bool.{Bool, cond, _&&_}
 use mathlib.Core.List.{List, [], map, _++_}
 use lib.Dec.{leb, eqb}
-use lib.ListN.{length, drop}
+use lib.ListN.{length, take, drop}
 use Rattle.head.specs.Range.{inRange}
 use Rattle.head.specs.declared.state.Head.{Head}
 use Rattle.plan.specs.Stored.{Plan, orders, refused, planOf}
-use Rattle.plan.specs.Words.{itemsOfAll}
+use Rattle.plan.specs.Words.{send, itemsOfAll}
+use Rattle.plan.specs.declared.encoding.Words.{Words}
 use Rattle.schedule.specs.Earliest.{atRest}
+use Rattle.schedule.specs.Clock.{clockedFrom, clockThrough}
+use Rattle.schedule.specs.declared.clock.Clock.{Clock}
 use Rattle.schedule.specs.Schedule.{Timed, Schedule, scheduleFrom}
 use Rattle.schedule.specs.declared.Translated.{Translated}
 use Rattle.schedule.specs.declared.Translated.the-variants.{Done, Refused, Short}
@@ -46,6 +49,16 @@ tickList sch = map (λ (x : Timed). x .tick) (sch .list)
 
 abbrev pub wordList : Schedule → List ℕ
 wordList sch = map (λ (x : Timed). x .word) (sch .list)
+
+-- The words that a counted array holds, their ticks from a clock on, and the clock after them.
+abbrev pub wordsIn : Words → List ℕ
+wordsIn ws = take (ws .count) (ws .list)
+
+abbrev pub ticksFrom : Clock → List ℕ → List ℕ
+ticksFrom c ws = tickList (clockedFrom c (map send ws))
+
+abbrev pub clockPast : Clock → List ℕ → Clock
+clockPast c ws = clockThrough c (map send ws)
 
 -- The refusal's number of document 01, 0 for none, and its byte place.
 unfoldable pub translatedNumber : Translated → ℕ

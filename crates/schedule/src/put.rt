@@ -3,14 +3,12 @@ use crate::clock::Clock;
 use plan::encoding::Words;
 use words::kind_of;
 ghost use mathlib.Core.Path.{_≡_};
-ghost use mathlib.Core.List.{map};
 ghost use Prim.Native.Nat.{_+_, _≤_, _<_};
-ghost use lib.ListN.{length, set, take};
+ghost use lib.ListN.{length, set};
 ghost use lib.Seq.{sets};
-ghost use Rattle.plan.specs.Words.{send};
 ghost use Rattle.words.specs.Kinds.{bitsOf};
-ghost use Rattle.schedule.specs.Clock.{Near, latest, kindIn, tickFor, clockAfter, clockThrough, clockedFrom};
-ghost use Rattle.schedule.specs.Translate.{tickList};
+ghost use Rattle.schedule.specs.Clock.{Near, latest, early, kindIn, tickFor, clockAfter};
+ghost use Rattle.schedule.specs.Translate.{wordsIn, ticksFrom, clockPast};
 
 // The clock after some words, and the place after theirs.
 pub struct Placed {
@@ -29,4 +27,26 @@ fn put_word(words: &mut [u16], ticks: &mut [u32], at: usize, clock: Clock, word:
     words[at] = word;
     ticks[at] = clock.tick_for(kind);
     clock.after(kind, word % 1024)
+}
+
+// The words of an order from a place on.
+fn put_words(words: &mut [u16], ticks: &mut [u32], from: usize, start: Clock, sent: Words) -> Placed
+    requires { ⌜ sent .count ≤ 4 ⌝ }
+    requires { ⌜ from + sent .count ≤ length (now words) ⌝ ∗ ⌜ from + sent .count ≤ length (now ticks) ⌝ ∗ ⌜ Near early start ⌝ }
+    ensures { λ r. ⌜ (r .clock ≡ clockPast start (wordsIn sent)) × (r .next ≡ from + sent .count) ⌝ }
+    ensures { λ r. ⌜ now (words .exit) ≡ sets (now (words .entry)) from (wordsIn sent) ⌝ }
+    ensures { λ r. ⌜ now (ticks .exit) ≡ sets (now (ticks .entry)) from (ticksFrom start (wordsIn sent)) ⌝ }
+{
+    let count = sent.count;
+    let list = sent.list;
+    let mut clock = start;
+    let mut i: usize = 0;
+    while i < count {
+        clock = put_word(words, ticks, from + i, clock, list[i]);
+        i = i + 1;
+    }
+    Placed {
+        clock,
+        next: from + count,
+    }
 }
