@@ -97,7 +97,7 @@ fn word_at(code: u8, i: usize, bits: u32) -> u16
 }
 
 // How many words a code has.
-fn word_count(code: u8) -> usize
+pub fn word_count(code: u8) -> usize
     ensures { λ r. ⌜ r ≡ length (kindsOf code) ⌝ }
 {
     COUNT[place_of(code)]

@@ -5,3 +5,4 @@ pub mod Clocked
 pub mod Plans
 pub mod Advance
 pub mod Laying
+pub mod OrderLaid

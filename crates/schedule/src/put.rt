@@ -1,13 +1,19 @@
 // The words of orders laid into two lists, each with its tick.
 use crate::clock::Clock;
+use plan::codes::WAIT;
 use plan::encoding::Words;
+use plan::order::Order;
 use words::kind_of;
 ghost use mathlib.Core.Path.{_≡_};
+ghost use mathlib.Core.Bool.{true};
 ghost use Prim.Native.Nat.{_+_, _≤_, _<_};
 ghost use lib.ListN.{length, set};
 ghost use lib.Seq.{sets};
+ghost use Rattle.plan.specs.Codes.{fit};
+ghost use Rattle.plan.specs.Words.{wordsOf, itemsOf};
 ghost use Rattle.words.specs.Kinds.{bitsOf};
-ghost use Rattle.schedule.specs.Clock.{Near, latest, early, kindIn, tickFor, clockAfter};
+ghost use Rattle.schedule.specs.Clock.{Near, latest, early, kindIn, tickFor, clockAfter, clockThrough};
+ghost use Rattle.schedule.specs.Filled.{orderTicks};
 ghost use Rattle.schedule.specs.Translate.{wordsIn, ticksFrom, clockPast};
 
 // The clock after some words, and the place after theirs.
@@ -49,4 +55,27 @@ fn put_words(words: &mut [u16], ticks: &mut [u32], from: usize, start: Clock, se
         clock,
         next: from + count,
     }
+}
+
+// The words of an order that fits, from a place on; a wait has none and advances the clock.
+pub(crate) fn put_order(
+    words: &mut [u16],
+    ticks: &mut [u32],
+    from: usize,
+    clock: Clock,
+    order: Order,
+) -> Placed
+    requires { ⌜ fit order ≡ true ⌝ ∗ ⌜ Near early clock ⌝ }
+    requires { ⌜ from + length (wordsOf order) ≤ length (now words) ⌝ ∗ ⌜ from + length (wordsOf order) ≤ length (now ticks) ⌝ }
+    ensures { λ r. ⌜ (r .clock ≡ clockThrough clock (itemsOf order)) × (r .next ≡ from + length (wordsOf order)) ⌝ }
+    ensures { λ r. ⌜ now (words .exit) ≡ sets (now (words .entry)) from (wordsOf order) ⌝ }
+    ensures { λ r. ⌜ now (ticks .exit) ≡ sets (now (ticks .entry)) from (orderTicks clock order) ⌝ }
+{
+    if order.code == WAIT {
+        return Placed {
+            clock: clock.paused(order.a),
+            next: from,
+        };
+    }
+    put_words(words, ticks, from, clock, order.words())
 }

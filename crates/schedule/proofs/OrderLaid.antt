@@ -1,0 +1,120 @@
+-- The words of one order of a plan, and then those of the rest, as the clock times them.
+-- Assumes nothing.
+use mathlib.Core.Path.{_≡_, refl, sym, ap, _∙_}
+use mathlib.Core.Bool.{true}
+use mathlib.Core.List.{List, [], _∷_, _++_, map, map-append}
+use Prim.Native.Nat.{ℕ, zero, suc, _+_, _*_, _≤_, _<_}
+use native.Mathlib.Nat.{add-zero, add-suc, suc-add}
+use native.Mathlib.Decide.{ℕ-discrete}
+use native.Mathlib.Omega.{arith}
+use borrow.Author.Tests.{leb-true, ne-eqb}
+use lib.Dec.{T, leb}
+use lib.ListN.{length, take, set, length-take, length-map}
+use lib.Seq.{sets}
+use Rattle.words.proofs.Tables.{agree, agree-at}
+use Rattle.words.proofs.Tests.{and-left, and-right}
+use Rattle.words.specs.Kinds.{bitsOf}
+use Rattle.plan.specs.Codes as code
+use Rattle.plan.specs.Codes.{known, fieldsFit, fit}
+use Rattle.plan.specs.Words.{Item, send, pause, wordsOf, itemsOf, itemsOfAll}
+use Rattle.plan.specs.Encoding.{kindRows, kindsOf, four, wordsIfFit, listed}
+use Rattle.plan.specs.declared.order.Order.{Order}
+use Rattle.plan.specs.declared.encoding.Words.{Words}
+use Rattle.plan.proofs.OrderWords.{words-are, all-allowed, length-by, fit-words}
+use Rattle.schedule.specs.Schedule.{Timed, Schedule}
+use Rattle.schedule.specs.Clock.{kindIn, tickFor, clockAfter, clockedFrom, clockThrough}
+use Rattle.schedule.specs.Translate.{wordList, tickList, wordsIn, ticksFrom}
+use Rattle.schedule.specs.declared.clock.Clock.{Clock}
+use Rattle.schedule.proofs.Clocked.{clocked-list, clocked-end}
+
+-- at most four words, as many as the code's kinds
+few-kinds : T (agree (λ k. length (take 4 (kindsOf k))) (λ k. length (kindsOf k)) 18)
+unfolding kindsOf kindRows
+few-kinds = tt
+
+module _ (o : Order) (f : fit o ≡ true) where
+  is-known : known (o .code) ≡ true
+  unfolding fit
+  is-known = and-left (known (o .code)) (fieldsFit o) f
+
+  pub fit-count : length (wordsOf o) ≡ length (kindsOf (o .code))
+  unfolding fit
+  fit-count =
+      ap length (words-are o is-known)
+      ∙ length-by (kindsOf (o .code)) _ (all-allowed o is-known (and-right (known (o .code)) (fieldsFit o) f))
+
+  pub fit-few : length (wordsOf o) ≤ 4
+  unfolding known
+  fit-few =
+      let most = leb-true (o .code) 17 (and-right (leb 1 (o .code)) (leb (o .code) 17) is-known) in
+      let same = agree-at (λ k. length (take 4 (kindsOf k))) (λ k. length (kindsOf k)) 18 few-kinds (o .code) (omega arith) in
+      omega (arith, fit-count, length-take 4 (kindsOf (o .code)))
+
+  -- what the code is given for the order holds its words
+  pub given-words : (r : Words) → r ≡ listed (wordsIfFit o) → wordsIn r ≡ wordsOf o
+  unfolding listed
+  given-words r is = rw (is, fit-words o f) (all (wordsOf o) fit-few)
+    where
+      all : (ws : List ℕ) → length ws ≤ 4 → take (length ws) (four ws) ≡ ws
+      all [] h = refl
+      all (a ∷ []) h = refl
+      all (a ∷ b ∷ []) h = refl
+      all (a ∷ b ∷ c ∷ []) h = refl
+      all (a ∷ b ∷ c ∷ d ∷ []) h = refl
+      all (a ∷ b ∷ c ∷ d ∷ e ∷ ws) h = absurd (omega arith)
+
+  pub given-count : (r : Words) → r ≡ listed (wordsIfFit o) → r .count ≡ length (wordsOf o)
+  unfolding listed
+  given-count r is = rw (is, fit-words o f)
+
+module _ (o : Order) where
+  -- a wait is a pause and has no words; any other order is its words
+  module _ (e : o .code ≡ code.wait) where
+    pub wait-items : itemsOf o ≡ pause (o .a) ∷ []
+    unfolding itemsOf
+    wait-items = rw e
+
+    pub wait-words : wordsOf o ≡ []
+    unfolding wordsOf
+    wait-words = rw e
+
+  pub other-items : (o .code ≡ code.wait → ⊥) → itemsOf o ≡ map send (wordsOf o)
+  unfolding itemsOf
+  other-items ne = rw (ne-eqb (o .code) code.wait ne)
+
+pub words-sent : (c : Clock) (ws : List ℕ) → wordList (clockedFrom c (map send ws)) ≡ ws
+unfolding clockedFrom
+words-sent c [] = refl
+words-sent c (w ∷ ws) = ap (λ (l : List ℕ). w ∷ l) (words-sent (clockAfter c (kindIn w) (bitsOf w)) ws)
+
+pub order-words : (c : Clock) (o : Order) → wordList (clockedFrom c (itemsOf o)) ≡ wordsOf o
+unfolding clockedFrom
+order-words c o = go (ℕ-discrete (o .code) code.wait)
+  where
+    go : Dec (o .code ≡ code.wait) → wordList (clockedFrom c (itemsOf o)) ≡ wordsOf o
+    go (yes e) = rw (wait-items o e, wait-words o e)
+    go (no ne) = rw (other-items o ne) (words-sent c (wordsOf o))
+
+-- an order, and then the rest
+module _ (c : Clock) (o : Order) (js : List Item) where
+  pub words-then : wordList (clockedFrom c (itemsOf o ++ js)) ≡ wordsOf o ++ wordList (clockedFrom (clockThrough c (itemsOf o)) js)
+  words-then =
+      ap (map (λ (x : Timed). x .word)) (clocked-list c (itemsOf o) js)
+      ∙ map-append (λ (x : Timed). x .word) (clockedFrom c (itemsOf o) .list) _
+      ∙ ap (λ (l : List ℕ). l ++ wordList (clockedFrom (clockThrough c (itemsOf o)) js)) (order-words c o)
+
+  pub ticks-then : tickList (clockedFrom c (itemsOf o ++ js))
+      ≡ tickList (clockedFrom c (itemsOf o)) ++ tickList (clockedFrom (clockThrough c (itemsOf o)) js)
+  ticks-then =
+      ap (map (λ (x : Timed). x .tick)) (clocked-list c (itemsOf o) js)
+      ∙ map-append (λ (x : Timed). x .tick) (clockedFrom c (itemsOf o) .list) _
+
+  pub ticks-long : length (tickList (clockedFrom c (itemsOf o))) ≡ length (wordsOf o)
+  ticks-long =
+      length-map (clockedFrom c (itemsOf o) .list) (λ (x : Timed). x .tick)
+      ∙ sym (length-map (clockedFrom c (itemsOf o) .list) (λ (x : Timed). x .word))
+      ∙ ap length (order-words c o)
+
+pub sets-append : (l : List ℕ) (i : ℕ) (a b : List ℕ) → sets l i (a ++ b) ≡ sets (sets l i a) (i + length a) b
+sets-append l i [] b = rw (add-zero i)
+sets-append l i (x ∷ a) b = rw (add-suc i (length a), ← suc-add i (length a)) (sets-append (set l i x) (suc i) a b)
