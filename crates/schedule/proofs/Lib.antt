@@ -6,3 +6,6 @@ pub mod Plans
 pub mod Advance
 pub mod Laying
 pub mod OrderLaid
+pub mod Walking
+pub mod Counting
+pub mod Filling

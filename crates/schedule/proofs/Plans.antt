@@ -22,16 +22,17 @@ use Rattle.plan.specs.Words.{Item, itemsOf, itemsOfAll}
 use Rattle.plan.specs.declared.order.Order.{Order}
 use Rattle.schedule.specs.Earliest.{atRest, delayOf, startWord, hkWord}
 use Rattle.schedule.specs.Schedule.{Timed, readied, spanOf, sent, scheduleFrom, Earliest}
-use Rattle.schedule.specs.Clock.{clockOf, clockedFrom}
+use Rattle.words.proofs.Allowed.{allowed-bits}
+use Rattle.schedule.specs.Clock.{Near, clockOf, clockAfter, clockPaused, clockThrough, clockedFrom}
 use Rattle.schedule.specs.declared.clock.Clock.{Clock}
 use Rattle.schedule.specs.Translate.{fit}
 use Rattle.schedule.proofs.InTurn.{Step, word, wait, InTurn, empty, given, paused, word-kind, word-bits}
 use Rattle.schedule.proofs.Orders.{AllFit, ByOrder, Meant, by-order, by-orders}
 use Rattle.schedule.proofs.Ready.{Idle, idle-ticks, wait-most, delay-wait, readied-idle, sent-idle, earliest}
-use Rattle.schedule.proofs.Clocked.{at-first, clocked}
+use Rattle.schedule.proofs.Clocked.{at-first, clocked, near-after, near-paused, near-more}
 
--- how many words steps have, and how many ticks they take at most: a word waits for motions at most 2025 ticks, and no acquisition is
--- longer than 4238
+-- how many words steps have, and how many ticks they take at most: a word waits for motions at most 3175 ticks (127 cover steps), and no
+-- acquisition is longer than 4238
 abbrev pub wordCount : List Step → ℕ
 wordCount [] = 0
 wordCount (word k b ∷ ms) = suc (wordCount ms)
@@ -39,7 +40,7 @@ wordCount (wait n ∷ ms) = wordCount ms
 
 abbrev pub mostTicks : List Step → ℕ
 mostTicks [] = 0
-mostTicks (word k b ∷ ms) = 6263 + mostTicks ms
+mostTicks (word k b ∷ ms) = 7413 + mostTicks ms
 mostTicks (wait n ∷ ms) = n + mostTicks ms
 
 words-append : (ms ns : List Step) → wordCount (ms ++ ns) ≡ wordCount ms + wordCount ns
@@ -82,6 +83,24 @@ pub plan-steps : (os : List Order) → AllFit os → Meant (itemsOfAll os) (λ m
 plan-steps =
     by-orders (λ o ms. Small 1 ms) small (λ os ms. Small (length os) ms) (omega arith)
     (λ o os ms ns p q. omega (arith, words-append ms ns, ticks-append ms ns))
+
+-- the clock after an order is near 65,535 ticks later
+near-through : {m : ℕ} {is : List Item} {ms : List Step} → InTurn m is ms → (n : ℕ) (c : Clock) → Near n c
+    → Near (n + mostTicks ms) (clockThrough c is)
+unfolding clockThrough
+near-through empty n c h = rw (add-zero n) h
+near-through (given {ms = ms} k b fine turn r) n c h =
+    rw (word-kind k b fine, word-bits k b fine, ← add-assoc n 7413 (mostTicks ms))
+    (near-through r (n + 7413) (clockAfter c k b) (near-after n c h k b (allowed-bits k b fine)))
+near-through (paused {ms = ms} m r) n c h =
+    rw (← add-assoc n m (mostTicks ms)) (near-through r (n + m) (clockPaused c m) (near-paused n m c h))
+
+pub near-order : (o : Order) → known (o .code) ≡ true → fieldsFit o ≡ true → (n : ℕ) (c : Clock) → Near n c
+    → Near (n + 65535) (clockThrough c (itemsOf o))
+near-order o k f n c h =
+    let m = by-order (λ o ms. Small 1 ms) small o k f in
+    near-more (n + mostTicks (m .steps)) (n + 65535) (clockThrough c (itemsOf o)) (omega (arith, m .holds .1))
+    (near-through (m .turn 0) n c h)
 
 -- the schedule has a word for each word of the steps, and ends within their ticks
 pub count-is : {n : ℕ} {is : List Item} {ms : List Step} → InTurn n is ms → (s : Head) (t : ℕ)

@@ -1,6 +1,7 @@
 // Plans translated into timed words (document 01, "Plans").
 pub mod clock;
 pub mod put;
+pub mod translate;
 
 // What translating a plan answers.
 pub enum Translated {
