@@ -21,7 +21,8 @@ use Rattle.plan.specs.Reading.{Entry, settingsBy, entriesBy, settingsRead, logR
 use Rattle.plan.specs.Words.{itemsOfAll, sineRegister}
 use Rattle.plan.specs.declared.order.Order.{Order}
 use Rattle.schedule.proofs.InTurn.{Step, word, wait}
-use Rattle.schedule.proofs.Orders.{AllFit, ByOrder, Meant, by-orders}
+use Rattle.plan.proofs.Accepted.{AllFit}
+use Rattle.schedule.proofs.Orders.{ByOrder, Meant, by-orders}
 use Rattle.run.specs.Run.{entryOf}
 
 -- what ticks leave alone: the settings, and what words keep for later words

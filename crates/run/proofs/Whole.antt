@@ -27,7 +27,7 @@ use Rattle.schedule.specs.Earliest.{isTaken, atRest, startWord, ready, delayOf}
 use Rattle.schedule.specs.Schedule.{Timed, readied, spanOf, sent, scheduleFrom}
 use Rattle.schedule.specs.Translate.{fit}
 use Rattle.schedule.proofs.InTurn.{Step, word, wait, InTurn, empty, given, paused, is-start}
-use Rattle.schedule.proofs.Orders.{AllFit}
+use Rattle.plan.proofs.Accepted.{AllFit}
 use Rattle.schedule.proofs.Ready.{Idle, idle-ticks, readied-idle, readied-ready, readied-taken, told-head, sent-idle}
 use Rattle.schedule.proofs.Plans.{fit-idle, span-bounds}
 use Rattle.run.specs.Run.{wordAt, Moment, momentsOf, headAfter, entryOf, entriesOf, momentLog, logOf}

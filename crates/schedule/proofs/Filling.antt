@@ -7,11 +7,10 @@ use Prim.Native.Nat.{ℕ, _+_, _*_, _≤_, _<_}
 use native.Mathlib.Omega.{arith}
 use lib.ListN.{length, drop, drop-of-length-le}
 use lib.Seq.{sets, length-sets}
-use Rattle.plan.specs.Codes.{known, fieldsFit, fit}
+use Rattle.plan.specs.Codes.{fit}
 use Rattle.plan.specs.Stored.{orders, byteAt, orderAt, planOf}
 use Rattle.plan.specs.Words.{wordsOf, itemsOf, itemsOfAll}
 use Rattle.plan.specs.declared.order.Order.{Order}
-use Rattle.words.proofs.Tests.{and-left, and-right}
 use Rattle.schedule.specs.Clock.{Near, early, clockedFrom, clockThrough}
 use Rattle.schedule.specs.Filled.{orderTicks, timedBy, wordTotal}
 use Rattle.schedule.specs.Translate.{tickList, wordList}
@@ -79,7 +78,7 @@ module _ (words₀ ticks₀ bs : List ℕ) (os : List Order) (start : Clock) (co
 
       core : Filling words₀ ticks₀ bs os start count (sets words next (wordsOf o)) (sets ticks next (orderTicks clock o)) (at + 1 + byteAt bs at)
           (next + length (wordsOf o)) (clockThrough clock (itemsOf o)) (k + 1)
-      unfolding o itemsOfAll fit
+      unfolding o itemsOfAll
       core =
           let o = orderAt bs at in
           let then = clockThrough clock (itemsOf o) in
@@ -93,7 +92,7 @@ module _ (words₀ ticks₀ bs : List ℕ) (os : List Order) (start : Clock) (co
             long = h .long;
             near =
                 near-more (65535 * k + 65535) (65535 * (k + 1)) then (omega arith)
-                (near-order o (and-left (known (o .code)) (fieldsFit o) fits) (and-right (known (o .code)) (fieldsFit o) fits) (65535 * k) clock (h .near));
+                (near-order o fits (65535 * k) clock (h .near));
             roomWords = h .roomWords;
             roomTicks = h .roomTicks;
             longWords = length-sets words next (wordsOf o) ∙ h .longWords;

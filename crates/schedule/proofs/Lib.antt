@@ -9,3 +9,4 @@ pub mod OrderLaid
 pub mod Walking
 pub mod Counting
 pub mod Filling
+pub mod Translating

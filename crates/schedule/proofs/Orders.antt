@@ -15,15 +15,11 @@ use Rattle.words.specs.Codec.{wordOf}
 use Rattle.words.proofs.Tests.{and-left, and-right}
 use Rattle.head.specs.Word.{outOfTurn}
 use Rattle.plan.specs.Codes as code
-use Rattle.plan.specs.Codes.{Range, rows, rowOf, known, within, related, fieldsOf, fieldsFit}
+use Rattle.plan.specs.Codes.{Range, rows, rowOf, known, within, related, fieldsOf, fieldsFit, fit}
 use Rattle.plan.specs.Words.{Item, send, sineRegister, switchData, wordsOf, itemsOf, itemsOfAll}
 use Rattle.plan.specs.declared.order.Order.{Order}
+use Rattle.plan.proofs.Accepted.{AllFit}
 use Rattle.schedule.proofs.InTurn.{Step, word, wait, InTurn, empty, given, paused, countAfter, in-turn-append}
-
--- every order is known and its fields are in range
-abbrev pub AllFit : List Order → Type 0
-AllFit [] = Unit {0}
-AllFit (o ∷ os) = (known (o .code) ≡ true) × (fieldsFit o ≡ true) × AllFit os
 
 -- a property of every code
 module _ (P : ℕ → Type 0) where
@@ -237,8 +233,11 @@ module _ (P : Order → List Step → Type 0) (p : ByOrder P) where
         (λ n. paused a empty)
         (p .wait a b c d (omega arith)))
 
-  pub by-order : (o : Order) → known (o .code) ≡ true → fieldsFit o ≡ true → Meant (itemsOf o) (P o)
-  by-order o k h = by-fields (o .a) (o .b) (o .c) (o .d) (o .code) k h
+  pub by-order : (o : Order) → fit o ≡ true → Meant (itemsOf o) (P o)
+  unfolding fit
+  by-order o f =
+      by-fields (o .a) (o .b) (o .c) (o .d) (o .code) (and-left (known (o .code)) (fieldsFit o) f)
+      (and-right (known (o .code)) (fieldsFit o) f)
 
   -- and of all orders of a plan
   module _ (Q : List Order → List Step → Type 0) (none : Q [] [])
@@ -247,8 +246,8 @@ module _ (P : Order → List Step → Type 0) (p : ByOrder P) where
     unfolding itemsOfAll
     by-orders [] h = record { steps = []; turn = λ c. empty; holds = none }
     by-orders (o ∷ os) h =
-        let first = by-order o (h .0) (h .1) in
-        let rest = by-orders os (h .2) in
+        let first = by-order o (h .0) in
+        let rest = by-orders os (h .1) in
         record {
           steps = first .steps ++ rest .steps;
           turn = λ c. in-turn-append (first .turn c) (rest .turn);

@@ -17,7 +17,7 @@ use Rattle.head.specs.Range.{inRange}
 use Rattle.head.specs.Tick.{ticksOf}
 use Rattle.head.specs.declared.state.Head.{Head}
 use Rattle.head.proofs.Bounds.{bounds, length-bounds}
-use Rattle.plan.specs.Codes.{known, fieldsFit}
+use Rattle.plan.specs.Codes as code
 use Rattle.plan.specs.Words.{Item, itemsOf, itemsOfAll}
 use Rattle.plan.specs.declared.order.Order.{Order}
 use Rattle.schedule.specs.Earliest.{atRest, delayOf, startWord, hkWord}
@@ -26,8 +26,9 @@ use Rattle.words.proofs.Allowed.{allowed-bits}
 use Rattle.schedule.specs.Clock.{Near, clockOf, clockAfter, clockPaused, clockThrough, clockedFrom}
 use Rattle.schedule.specs.declared.clock.Clock.{Clock}
 use Rattle.schedule.specs.Translate.{fit}
+use Rattle.plan.proofs.Accepted.{AllFit}
 use Rattle.schedule.proofs.InTurn.{Step, word, wait, InTurn, empty, given, paused, word-kind, word-bits}
-use Rattle.schedule.proofs.Orders.{AllFit, ByOrder, Meant, by-order, by-orders}
+use Rattle.schedule.proofs.Orders.{ByOrder, Meant, by-order, by-orders}
 use Rattle.schedule.proofs.Ready.{Idle, idle-ticks, wait-most, delay-wait, readied-idle, sent-idle, earliest}
 use Rattle.schedule.proofs.Clocked.{at-first, clocked, near-after, near-paused, near-more}
 
@@ -95,10 +96,10 @@ near-through (given {ms = ms} k b fine turn r) n c h =
 near-through (paused {ms = ms} m r) n c h =
     rw (← add-assoc n m (mostTicks ms)) (near-through r (n + m) (clockPaused c m) (near-paused n m c h))
 
-pub near-order : (o : Order) → known (o .code) ≡ true → fieldsFit o ≡ true → (n : ℕ) (c : Clock) → Near n c
+pub near-order : (o : Order) → code.fit o ≡ true → (n : ℕ) (c : Clock) → Near n c
     → Near (n + 65535) (clockThrough c (itemsOf o))
-near-order o k f n c h =
-    let m = by-order (λ o ms. Small 1 ms) small o k f in
+near-order o f n c h =
+    let m = by-order (λ o ms. Small 1 ms) small o f in
     near-more (n + mostTicks (m .steps)) (n + 65535) (clockThrough c (itemsOf o)) (omega (arith, m .holds .1))
     (near-through (m .turn 0) n c h)
 

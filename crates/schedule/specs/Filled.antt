@@ -6,6 +6,8 @@ use lib.ListN.{length}
 use Rattle.plan.specs.Words.{wordsOf, itemsOf, itemsOfAll}
 use Rattle.plan.specs.Stored.{Plan, orders, refused}
 use Rattle.plan.specs.declared.order.Order.{Order}
+use Rattle.plan.specs.declared.stored.Judged.{Judged}
+use Rattle.schedule.specs.declared.Translated.{Translated}
 use Rattle.schedule.specs.Schedule.{Schedule}
 use Rattle.schedule.specs.Clock.{clockedFrom}
 use Rattle.schedule.specs.Translate.{tickList}
@@ -28,3 +30,8 @@ timedBy c os = clockedFrom c (itemsOfAll os)
 unfoldable pub wordTotal : List Order → ℕ
 wordTotal [] = 0
 wordTotal (o ∷ os) = length (wordsOf o) + wordTotal os
+
+-- The answer for what judging a plan found, where that is a refusal.
+unfoldable pub refusalOf : Judged → Translated
+refusalOf (Judged.Refused n p) = Translated.Refused n p
+refusalOf (Judged.Accepted n) = Translated.Short n

@@ -10,15 +10,13 @@ use plan::stored::byte_at;
 use plan::stored::judge;
 use plan::stored::order_at;
 ghost use mathlib.Core.Path.{_≡_};
-ghost use mathlib.Core.Bool.{true};
 ghost use Prim.Native.Nat.{_≤_};
 ghost use lib.ListN.{length};
 ghost use lib.Seq.{sets};
 ghost use Rattle.plan.specs.Stored.{orders, planOf};
-ghost use Rattle.plan.specs.Judged.{judgedOf};
 ghost use Rattle.schedule.specs.Clock.{Near};
-ghost use Rattle.schedule.specs.Filled.{ordersIn, timedBy, wordTotal};
-ghost use Rattle.schedule.specs.Translate.{fit, translateOf, scheduleOf, filled, tickList, wordList, answerOfPlan};
+ghost use Rattle.schedule.specs.Filled.{ordersIn, timedBy, wordTotal, refusalOf};
+ghost use Rattle.schedule.specs.Translate.{fit, translateOf, scheduleOf, filled, tickList, wordList};
 
 // How many words the orders of an accepted plan have.
 fn count_words(plan: &[u8], count: usize) -> usize
@@ -56,4 +54,48 @@ fn fill(words: &mut [u16], ticks: &mut [u32], plan: &[u8], count: usize, start: 
         k = k + 1;
     }
     clock.now
+}
+
+// Whether a plan can be translated for a head: in range, idle, and nothing moving.
+pub fn is_fit(head: Head) -> bool
+    ensures { λ r. ⌜ r ≡ fit head ⌝ }
+{
+    head.in_range() & (head.work.busy == 0) & ((head.motion.mirror == 0) & (head.motion.cover == 0))
+}
+
+// The answer for a plan that is refused.
+fn refused(judged: Judged) -> Translated
+    ensures { λ r. ⌜ r ≡ refusalOf judged ⌝ }
+{
+    match judged {
+        Judged::Refused { number, place } => Translated::Refused { number, place },
+        Judged::Accepted { count } => Translated::Short { count },
+    }
+}
+
+// Fills the first places of words and ticks with the plan's, or refuses and writes to neither.
+pub fn translate(head: Head, plan: &[u8], words: &mut [u16], ticks: &mut [u32]) -> Translated
+    ensures { λ r. ⌜ r ≡ translateOf head (now (plan .entry)) (length (now (words .entry))) (length (now (ticks .entry))) ⌝ }
+    ensures { λ r. ⌜ now (words .exit) ≡ filled r (wordList (scheduleOf head (planOf (now (plan .entry))))) (now (words .entry)) ⌝ }
+    ensures { λ r. ⌜ now (ticks .exit) ≡ filled r (tickList (scheduleOf head (planOf (now (plan .entry))))) (now (ticks .entry)) ⌝ }
+{
+    if !is_fit(head) {
+        return Translated::Refused {
+            number: 1,
+            place: 0,
+        };
+    }
+    let judged = judge(plan);
+    let Judged::Accepted { count } = judged else {
+        return refused(judged);
+    };
+    let total = count_words(plan, count);
+    if words.len() < total {
+        return Translated::Short { count: total };
+    }
+    if ticks.len() < total {
+        return Translated::Short { count: total };
+    }
+    let end = fill(words, ticks, plan, count, Clock::of(head));
+    Translated::Done { count: total, end }
 }
