@@ -1,19 +1,18 @@
 -- What an accepted plan says of its orders: for a loop that reads them one by one, and for all of them together.
 -- Assumes nothing.
-use mathlib.Core.Path.{_≡_, refl, sym, subst, ap, _∙_}
-use mathlib.Core.Bool.{Bool, true, false, cond, not, _&&_, _||_, true≢false}
+use mathlib.Core.Path.{_≡_, refl, sym, subst, _∙_}
+use mathlib.Core.Bool.{Bool, true, false, _||_, true≢false}
 use mathlib.Core.List.{List, [], _∷_}
 use Prim.Native.Nat.{ℕ, zero, suc, _+_, _<_, _≤_}
 use native.Mathlib.Decide.{ℕ-discrete, decLt}
 use native.Mathlib.Omega.{arith}
-use borrow.Author.Tests.{eqb-true, ltb-true, ltb-false, eqb-false, le-ltb}
+use borrow.Author.Tests.{eqb-true, ltb-false}
 use lib.Dec.{eqb, ltb}
 use lib.ListN.{length, drop}
 use Rattle.plan.specs.Codes.{known, lengthOf, fieldsFit, fit}
 use Rattle.plan.specs.Stored.{Plan, orders, refused, byteAt, pairAt, orderAt, faultAt, before, ordersFrom, mostOrders, planOf}
 use Rattle.plan.specs.Judged.{judgedOf}
 use Rattle.plan.specs.declared.order.Order.{Order}
-use Rattle.plan.specs.declared.stored.Judged.{Judged}
 use Rattle.plan.specs.declared.stored.Judged.the-variants.{Accepted, Refused}
 use Rattle.plan.proofs.Judging.{from-end, from-many, from-fault, from-order}
 
@@ -71,7 +70,11 @@ sound bs at e = go (eqb size 0 || past) refl (known code) refl (eqb size (length
     go false p true q false r f t = absurd (omega (arith, rw (p, q, r) at e))
     go false p true q true r false t = absurd (omega (arith, rw (p, q, r, t) at e))
     go false p true q true r true t =
-        record { ends = ltb-false (length bs) (at + 1 + size) (or-right (eqb size 0) past p); size = eqb-true size (lengthOf code) r; fits = rw (q, t) }
+        record {
+          ends = ltb-false (length bs) (at + 1 + size) (or-right (eqb size 0) past p);
+          size = eqb-true size (lengthOf code) r;
+          fits = rw (q, t);
+        }
 
 -- the next order of an accepted plan, and the rest
 module _ (bs : List ℕ) (at n : ℕ) (os : List Order) (is : ordersFrom n bs at ≡ orders os) where
@@ -126,19 +129,21 @@ module _ (bs : List ℕ) (P : ℕ → List Order → Type 0) (none : (n : ℕ) �
       go : Dec (at < length bs) → (ordersFrom n bs (at + 1 + byteAt bs at) ≡ orders (drop 1 os) → P n (drop 1 os)) → P (suc n) os
       go (yes h) rest =
           subst (P (suc n)) (sym (orders-first bs at (suc n) os is h n refl))
-          (more n (orderAt bs at) (drop 1 os) (sound bs at (orders-sound bs at (suc n) os is h) .fits) (rest (orders-rest bs at (suc n) os is h n refl)))
+          (more n (orderAt bs at) (drop 1 os) (sound bs at (orders-sound bs at (suc n) os is h) .fits)
+          (rest (orders-rest bs at (suc n) os is h n refl)))
       go (no h) rest = rw (orders-done bs at (suc n) os is (omega arith)) (none (suc n))
 
+-- all orders fit
 abbrev pub AllFit : List Order → Type 0
 AllFit [] = Unit {0}
 AllFit (o ∷ os) = (fit o ≡ true) × AllFit os
 
--- an accepted plan: its header, that every order fits, and that there are at most 64
 pub record Header (bs : List ℕ) : Type 0 where
   pub long : 3 ≤ length bs
   pub version : byteAt bs 0 ≡ 1
   pub rest : length bs ≡ 3 + pairAt bs 1
 
+-- an accepted plan: its header, that every order fits, and that there are at most 64
 module _ (bs : List ℕ) (os : List Order) (is : planOf bs ≡ orders os) where
   read : Header bs × (ordersFrom mostOrders bs 3 ≡ orders os)
   unfolding planOf
@@ -151,7 +156,8 @@ module _ (bs : List ℕ) (os : List Order) (is : planOf bs ≡ orders os) where
       go false p false q l r = differ (cc (rw (p, q) at is))
       go false p true q false r = differ (cc (rw (p, q, r) at is))
       go false p true q true r =
-          (record { long = ltb-false (length bs) 3 p; version = eqb-true (byteAt bs 0) 1 q; rest = eqb-true (length bs) (3 + pairAt bs 1) r }, rw (p, q, r) at is)
+          let header : Header bs = record { long = ltb-false (length bs) 3 p; version = eqb-true (byteAt bs 0) 1 q; rest = eqb-true (length bs) (3 + pairAt bs 1) r } in
+          (header, rw (p, q, r) at is)
 
   pub accepted-header : Header bs
   accepted-header = read .0

@@ -1,13 +1,13 @@
 -- How bytes are read into fields, orders and faults: one law for each way through the code.
 -- Assumes nothing.
-use mathlib.Core.Path.{_≡_, refl, sym, ap, _∙_}
-use mathlib.Core.Bool.{Bool, true, false, cond, not, _||_, or-true}
-use mathlib.Core.List.{List, [], _∷_}
+use mathlib.Core.Path.{_≡_, sym}
+use mathlib.Core.Bool.{Bool, true, false, cond, not, or-true}
+use mathlib.Core.List.{List}
 use Prim.Native.Nat.{ℕ, _+_, _*_, _<_, _≤_}
 use native.Mathlib.Omega.{arith}
 use borrow.Author.Tests.{eq-eqb, ne-eqb, lt-ltb, le-ltb}
-use lib.Dec.{eqb, ltb}
-use lib.ListN.{length, getD, List·getD-eq-default}
+use lib.Dec.{eqb}
+use lib.ListN.{length, List·getD-eq-default}
 use Rattle.plan.specs.Codes.{rows, countOf, widthOf, known, lengthOf, fieldsFit}
 use Rattle.plan.specs.Stored.{byteAt, pairAt, fieldAt, orderAt, faultAt}
 use Rattle.plan.specs.declared.order.Order.{Order}
@@ -58,7 +58,8 @@ module _ (bs : List ℕ) (at size : ℕ) (is-size : size ≡ byteAt bs at) where
   fault-past h = rw (← is-size, lt-ltb (length bs) (at + 1 + size) h, or-true (eqb size 0))
 
   module _ (code : ℕ) (full : size ≡ 0 → ⊥) (ends : at + 1 + size ≤ length bs) (is-code : code ≡ byteAt bs (at + 1)) where
-    fault-later : cond (not (known code)) 6 (cond (not (eqb size (lengthOf code))) 7 (cond (not (fieldsFit (orderAt bs at))) 8 0)) ≡ faultAt bs at
+    fault-later : cond (not (known code)) 6
+        (cond (not (eqb size (lengthOf code))) 7 (cond (not (fieldsFit (orderAt bs at))) 8 0)) ≡ faultAt bs at
     unfolding faultAt
     fault-later = rw (← is-size, ne-eqb size 0 full, le-ltb (length bs) (at + 1 + size) ends, ← is-code)
 

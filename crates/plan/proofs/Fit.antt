@@ -1,7 +1,7 @@
 -- How the code judges the fields of an order, and what an order whose fields fit says of them.
 -- Assumes nothing.
 use mathlib.Core.Path.{_≡_, subst}
-use mathlib.Core.Bool.{Bool, true, false, cond, _&&_, _||_, and-true, false≢true}
+use mathlib.Core.Bool.{Bool, true, _&&_, _||_, and-true, false≢true}
 use mathlib.Core.List.{List, [], _∷_}
 use Prim.Native.Nat.{ℕ, _+_, _<_, _≤_}
 use native.Mathlib.Decide.{ℕ-discrete}
@@ -30,10 +30,14 @@ module _ (o : Order) where
     unfolding related
     related-other h = rw (ne-eqb (o .code) window other, ne-eqb (o .code) mirror h)
 
--- four values are within their ranges where each is in its own; past the ranges any value of sixteen bits is
+-- the range of the ith value; past the ranges any value of sixteen bits is in it
+abbrev own : List Range → ℕ → Range
+own rs i = getD rs i (0 to 65535)
+
+-- four values are within their ranges where each is in its own
 module _ (a b c d : ℕ) (fa : a < 65536) (fb : b < 65536) (fc : c < 65536) (fd : d < 65536) where
   within-each : (rs : List Range) → length rs ≤ 4
-      → (holds (getD rs 0 (0 to 65535)) a && (holds (getD rs 1 (0 to 65535)) b && (holds (getD rs 2 (0 to 65535)) c && holds (getD rs 3 (0 to 65535)) d))) ≡ within rs (a ∷ b ∷ c ∷ d ∷ [])
+      → (holds (own rs 0) a && (holds (own rs 1) b && (holds (own rs 2) c && holds (own rs 3) d))) ≡ within rs (a ∷ b ∷ c ∷ d ∷ [])
   unfolding within
   within-each [] h = rw (← holds-any a fa, ← holds-any b fb, ← holds-any c fc, ← holds-any d fd)
   within-each (r ∷ []) h = rw (← holds-any b fb, ← holds-any c fc, ← holds-any d fd)
@@ -77,6 +81,19 @@ module _ (P : ℕ → Type 0)
       (from P c 16 p16 (from P c 17 p17 (λ (past : 17 < c). absurd (omega arith))))))))))))))))))
       (leb-true 1 c (and-left (leb 1 c) (leb c 17) k))
 
+-- the order with another code
+abbrev pub recoded : ℕ → Order → Order
+recoded n o = record { code = n; a = o .a; b = o .b; c = o .c; d = o .d }
+
+-- what holds of an order at each of the codes holds of the order
+module _ (P : Order → Type 0) (o : Order)
+    (p1 : P (recoded 1 o)) (p2 : P (recoded 2 o)) (p3 : P (recoded 3 o)) (p4 : P (recoded 4 o)) (p5 : P (recoded 5 o))
+    (p6 : P (recoded 6 o)) (p7 : P (recoded 7 o)) (p8 : P (recoded 8 o)) (p9 : P (recoded 9 o)) (p10 : P (recoded 10 o))
+    (p11 : P (recoded 11 o)) (p12 : P (recoded 12 o)) (p13 : P (recoded 13 o)) (p14 : P (recoded 14 o)) (p15 : P (recoded 15 o))
+    (p16 : P (recoded 16 o)) (p17 : P (recoded 17 o)) where
+  pub by-order : known (o .code) ≡ true → P o
+  by-order k = by-code (λ n. P (recoded n o)) p1 p2 p3 p4 p5 p6 p7 p8 p9 p10 p11 p12 p13 p14 p15 p16 p17 (o .code) k
+
 -- each value is between the bounds of its range
 abbrev pub Bounds : List Range → List ℕ → Type 0
 Bounds [] vs = Unit {0}
@@ -93,6 +110,16 @@ within-bounds (r ∷ rs) (v ∷ vs) e =
       leb-true v (r .greatest) (and-right (leb (r .least) v) (leb v (r .greatest)) here),
       within-bounds rs vs (and-right (holds r v) (within rs vs) e),
     )
+
+-- what an order that fits says
+module _ (o : Order) (f : fit o ≡ true) where
+  pub fit-known : known (o .code) ≡ true
+  unfolding fit
+  fit-known = and-left (known (o .code)) (fieldsFit o) f
+
+  pub fit-fields : fieldsFit o ≡ true
+  unfolding fit
+  fit-fields = and-right (known (o .code)) (fieldsFit o) f
 
 -- what an order whose fields fit says of them; at a code it computes to the bounds of the code's fields
 module _ (o : Order) (fits : fieldsFit o ≡ true) where

@@ -1,21 +1,20 @@
 -- The words among the items of a plan: those of its orders, at most four an order and 256 in all.
 -- Assumes nothing.
-use mathlib.Core.Path.{_≡_, refl, sym, ap, _∙_}
+use mathlib.Core.Path.{_≡_, refl, ap}
 use mathlib.Core.Bool.{Bool, true, false, cond}
 use mathlib.Core.List.{List, [], _∷_, map, _++_}
-use Prim.Native.Nat.{ℕ, _+_, _*_, _≤_}
+use Prim.Native.Nat.{ℕ, _*_, _≤_}
 use native.Mathlib.Omega.{arith}
 use borrow.Author.Tests.{eqb-true}
 use lib.Dec.{lit≤}
 use lib.ListN.{length, length-append}
-use Rattle.words.proofs.Tests.{and-left}
 use Rattle.plan.specs.Codes as code
-use Rattle.plan.specs.Codes.{is, known, fieldsFit, fit}
+use Rattle.plan.specs.Codes.{is, known, fit}
 use Rattle.plan.specs.Stored.{orders, planOf}
 use Rattle.plan.specs.Words.{Item, send, pause, wordsOf, itemsOf, itemsOfAll}
+use Rattle.plan.specs.Encoding.{wordsIfFit}
 use Rattle.plan.specs.declared.order.Order.{Order}
-use Rattle.plan.proofs.Fit.{by-code}
-use Rattle.plan.proofs.OrderWords.{order}
+use Rattle.plan.proofs.Fit.{by-order, fit-known}
 use Rattle.plan.proofs.Accepted.{AllFit, accepted-fit, accepted-few}
 
 abbrev pub wordsIn : List Item → List ℕ
@@ -44,16 +43,24 @@ words-in-order o = go (is o code.wait) refl
 pub words-few : (o : Order) → known (o .code) ≡ true → length (wordsOf o) ≤ 4
 unfolding wordsOf
 words-few o k =
-    by-code (λ n. length (wordsOf (order n (o .a) (o .b) (o .c) (o .d))) ≤ 4)
+    by-order (λ p. length (wordsOf p) ≤ 4) o
     (lit≤ tt) (lit≤ tt) (lit≤ tt) (lit≤ tt) (lit≤ tt) (lit≤ tt) (lit≤ tt) (lit≤ tt) (lit≤ tt)
     (lit≤ tt) (lit≤ tt) (lit≤ tt) (lit≤ tt) (lit≤ tt) (lit≤ tt) (lit≤ tt) (lit≤ tt)
-    (o .code) k
+    k
+
+pub words-if-fit-few : (o : Order) → length (wordsIfFit o) ≤ 4
+unfolding wordsIfFit
+words-if-fit-few o = go (fit o) refl
+  where
+    go : (z : Bool) → fit o ≡ z → length (cond (fit o) (wordsOf o) []) ≤ 4
+    go true e = rw e (words-few o (fit-known o e))
+    go false e = rw e (omega arith)
 
 pub words-in-few : (os : List Order) → AllFit os → length (wordsIn (itemsOfAll os)) ≤ 4 * length os
-unfolding itemsOfAll fit
+unfolding itemsOfAll
 words-in-few [] h = omega arith
 words-in-few (o ∷ os) h =
-    let few = words-few o (and-left (known (o .code)) (fieldsFit o) (h .0)) in
+    let few = words-few o (fit-known o (h .0)) in
     let rest = words-in-few os (h .1) in
     rw (words-in-append (itemsOf o) (itemsOfAll os), words-in-order o, length-append (wordsOf o) (wordsIn (itemsOfAll os))) (omega arith)
 

@@ -1,12 +1,10 @@
 -- How the loop over the orders judges a plan.
 -- Assumes nothing.
 use mathlib.Core.Path.{_≡_, refl, sym, ap, _∙_}
-use mathlib.Core.Bool.{Bool, true, false, cond}
-use mathlib.Core.List.{List, [], _∷_}
+use mathlib.Core.List.{List, []}
 use Prim.Native.Nat.{ℕ, zero, suc, _+_, _-_, _<_, _≤_}
 use native.Mathlib.Omega.{arith}
 use borrow.Author.Tests.{eq-eqb, ne-eqb, lt-ltb, le-ltb}
-use lib.Dec.{eqb, ltb}
 use lib.ListN.{length}
 use Rattle.plan.specs.Stored.{Plan, orders, refused, byteAt, pairAt, orderAt, faultAt, before, ordersFrom, mostOrders, planOf}
 use Rattle.plan.specs.Judged.{judgedOf}
@@ -65,7 +63,8 @@ module _ (bs : List ℕ) (at count : ℕ) (whole : Judged) (inv : whole ≡ coun
       pub judged-fault : (fault ≡ 0 → ⊥) → Refused fault at ≡ whole
       judged-fault h = rw (inv, one-more, from-fault bs at more (64 - (count + 1)) (λ e. h (is-fault ∙ e)), is-fault)
 
-      pub judged-next : (size : ℕ) → size ≡ byteAt bs at → fault ≡ 0 → whole ≡ counted (count + 1) (ordersFrom (64 - (count + 1)) bs (at + 1 + size))
+      pub judged-next : (size : ℕ) → size ≡ byteAt bs at → fault ≡ 0
+          → whole ≡ counted (count + 1) (ordersFrom (64 - (count + 1)) bs (at + 1 + size))
       judged-next size is h =
           rw (inv, one-more, from-order bs at more (64 - (count + 1)) (sym is-fault ∙ h), is)
           (counted-before count (orderAt bs at) (ordersFrom (64 - (count + 1)) bs (at + 1 + byteAt bs at)))

@@ -1,8 +1,8 @@
 -- How tables give the fields of a code: their number, their width and their ranges.
 -- Assumes nothing.
-use mathlib.Core.Path.{_≡_, refl, sym, ap, _∙_}
-use mathlib.Core.Bool.{Bool, true, false, cond, _&&_}
-use mathlib.Core.List.{List, [], _∷_}
+use mathlib.Core.Path.{_≡_, refl}
+use mathlib.Core.Bool.{Bool, true, _&&_}
+use mathlib.Core.List.{List, []}
 use Prim.Native.Nat.{ℕ, _+_, _-_, _*_, _<_, _≤_, _/_, _%_}
 use native.Mathlib.Decide.{decLe}
 use native.Mathlib.Nat.{le-of-lt, mul-le-mul}
@@ -21,7 +21,8 @@ use Rattle.plan.specs.Codes.{Range, _to_, Row, b, rows, rowOf, placeOf, 
 abbrev pub tabulates4 : List (List ℕ) → (ℕ → ℕ → ℕ) → Bool
 tabulates4 t g = agree (λ j. getD (getD t (j / 4) []) (j % 4) 0) (λ j. g (j / 4) (j % 4)) 72
 
-pub tabulates4-at : (t : List (List ℕ)) (g : ℕ → ℕ → ℕ) → T (tabulates4 t g) → (k i : ℕ) → k < 18 → i < 4 → getD (getD t k []) i 0 ≡ g k i
+pub tabulates4-at : (t : List (List ℕ)) (g : ℕ → ℕ → ℕ) → T (tabulates4 t g) → (k i : ℕ) → k < 18 → i < 4
+    → getD (getD t k []) i 0 ≡ g k i
 tabulates4-at t g ok k i hk hi =
     rw (digits-div k {m = 4} hi, digits-mod k {m = 4} hi)
     at (agree-at (λ j. getD (getD t (j / 4) []) (j % 4) 0) (λ j. g (j / 4) (j % 4)) 72 ok (k * 4 + i) (omega arith))
@@ -36,7 +37,8 @@ unfolding placeOf
 place-none code h = rw (lt-leb code 17 h)
 
 -- of eighteen rows, the first of them empty, the one at a code's place is the code's
-pub place-at : {A : Type 0} (t : List A) (none : A) → length t ≡ 18 → getD t 0 none ≡ none → (code : ℕ) → getD t (placeOf code) none ≡ getD t code none
+pub place-at : {A : Type 0} (t : List A) (none : A) → length t ≡ 18 → getD t 0 none ≡ none
+    → (code : ℕ) → getD t (placeOf code) none ≡ getD t code none
 place-at t none long first code = go (decLe code 17)
   where
     go : Dec (code ≤ 17) → getD t (placeOf code) none ≡ getD t code none
@@ -55,7 +57,8 @@ place-below code = go (decLe code 17)
     go (no h) = omega (arith, place-none code (omega arith))
 
 -- a table of what each row says gives it for every code
-row-by : (t : List ℕ) (g : Row → ℕ) (code : ℕ) → T (tabulates t (λ k. g (rowOf k)) 18) → getD t (placeOf code) 0 ≡ g (rowOf code)
+row-by : (t : List ℕ) (g : Row → ℕ) (code : ℕ) → T (tabulates t (λ k. g (rowOf k)) 18)
+    → getD t (placeOf code) 0 ≡ g (rowOf code)
 row-by t g code ok =
     rw (← place-row code) (tabulates-at t (λ k. g (rowOf k)) 18 ok (placeOf code) (place-below code))
 
@@ -75,7 +78,8 @@ module _ (code p : ℕ) (is : p ≡ placeOf code) where
   width-by t ok = rw is (row-by t (λ r. r .width) code ok)
 
   -- tables of the least and the greatest values decide what a field may hold
-  range-by : (t : List (List ℕ)) (g : Range → ℕ) (i : ℕ) → i < 4 → T (tabulates4 t (λ k j. g (rangeOf k j))) → getD (getD t p []) i 0 ≡ g (rangeOf code i)
+  range-by : (t : List (List ℕ)) (g : Range → ℕ) (i : ℕ) → i < 4 → T (tabulates4 t (λ k j. g (rangeOf k j)))
+      → getD (getD t p []) i 0 ≡ g (rangeOf code i)
   unfolding rangeOf
   range-by t g i h ok = rw (← place-row code, ← is) (tabulates4-at t (λ k j. g (rangeOf k j)) ok p i place-index h)
 

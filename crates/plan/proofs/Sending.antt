@@ -1,13 +1,14 @@
--- How the code makes the words of an order, and what those words are.
+-- How the code makes the words of an order: one law for each way through it.
 -- Assumes nothing.
-use mathlib.Core.Path.{_≡_, refl, sym, ap, _∙_}
+use mathlib.Core.Path.{_≡_, refl}
 use mathlib.Core.Bool.{Bool, true, false, cond, not, _||_}
 use mathlib.Core.List.{List, [], _∷_}
-use Prim.Native.Nat.{ℕ, zero, suc, _+_, _-_, _*_, _<_, _≤_, _/_, _%_}
+use Prim.Native.Nat.{ℕ, _+_, _-_, _<_, _≤_, _/_, _%_}
 use native.Mathlib.Omega.{arith}
 use borrow.Author.Tests.{eq-eqb, ne-eqb, lt-ltb, le-ltb, not-true}
-use lib.Dec.{T, eqb, ltb}
+use lib.Dec.{T}
 use lib.ListN.{length, getD}
+use Rattle.words.specs.Fields.{switched, coverBits}
 use Rattle.words.specs.Kinds.{allowed}
 use Rattle.words.specs.Codec.{wordOf, encodeOf}
 use Rattle.words.specs.declared.Encoded.{Encoded}
@@ -16,8 +17,8 @@ use Rattle.words.proofs.Allowed.{allowed-bits}
 use Rattle.words.proofs.Tables.{tabulates, tabulates-at}
 use Rattle.plan.specs.Codes as code
 use Rattle.plan.specs.Codes.{is, placeOf, fit}
-use Rattle.plan.specs.Words.{sineRegister, switchData, wordsOf}
-use Rattle.plan.specs.Encoding.{isVoltage, isTimes, isMode, isSwitched, kindRows, kindsOf, bitsOf, four, wordIfAllowed, wordsIfFit, listed}
+use Rattle.plan.specs.Words.{sineRegister, switchData}
+use Rattle.plan.specs.Encoding.{isVoltage, isTimes, isMode, isSwitched, kindRows, kindsOf, actBits, bitsOf, four, wordIfAllowed, wordsIfFit, listed}
 use Rattle.plan.specs.declared.order.Order.{Order}
 use Rattle.plan.proofs.Rows.{place-at, place-index, tabulates4, tabulates4-at}
 
@@ -71,7 +72,35 @@ module _ (k d : ℕ) where
         go true p = let z : _≡_ {A = ℕ} 0 1 = cc (rw p at is-encoded) in absurd (omega arith)
         go false p = rw p
 
--- the nine ways to the data of an order's words
+-- the four ways to the data of the words that move or start something
+module _ (o : Order) where
+  pub bits-mirror : (s : ℕ) → s ≡ sineRegister (o .a) → o .code ≡ code.mirror
+      → (s / 256 ∷ s % 256 ∷ o .b / 256 ∷ o .b % 256 ∷ []) ≡ four (actBits o)
+  unfolding actBits
+  bits-mirror s is h = rw (is, eq-eqb (o .code) code.mirror h)
+
+  module _ (no-mirror : o .code ≡ code.mirror → ⊥) where
+    pub bits-motor : (s : ℕ) → s ≡ switchData (o .a) → o .code ≡ code.motor → (s ∷ 0 ∷ 0 ∷ 0 ∷ []) ≡ four (actBits o)
+    unfolding actBits
+    bits-motor s is h = rw (is, ne-eqb (o .code) code.mirror no-mirror, eq-eqb (o .code) code.motor h)
+
+    module _ (no-motor : o .code ≡ code.motor → ⊥) where
+      later : cond (is o code.cover) (coverBits (o .a) (o .b) (o .c) (o .d) ∷ [])
+          (cond (is o code.expose || is o code.housekeeping) (0 ∷ []) []) ≡ actBits o
+      unfolding actBits
+      later = rw (ne-eqb (o .code) code.mirror no-mirror, ne-eqb (o .code) code.motor no-motor)
+
+      pub bits-cover : o .code ≡ code.cover → (coverBits (o .a) (o .b) (o .c) (o .d) ∷ 0 ∷ 0 ∷ 0 ∷ []) ≡ four (actBits o)
+      bits-cover h = rw (← later, eq-eqb (o .code) code.cover h)
+
+      pub bits-none : (o .code ≡ code.cover → ⊥) → (0 ∷ 0 ∷ 0 ∷ 0 ∷ []) ≡ four (actBits o)
+      bits-none h = rw (← later, ne-eqb (o .code) code.cover h) (go (is o code.expose || is o code.housekeeping))
+        where
+          go : (z : Bool) → (0 ∷ 0 ∷ 0 ∷ 0 ∷ []) ≡ four (cond z (0 ∷ []) [])
+          go true = refl
+          go false = refl
+
+-- the six ways to the data of an order's words
 module _ (o : Order) where
   pub bits-voltage : isVoltage o ≡ true → (o .a / 256 ∷ o .a % 256 ∷ 0 ∷ 0 ∷ []) ≡ four (bitsOf o)
   unfolding bitsOf
@@ -93,34 +122,16 @@ module _ (o : Order) where
         bits-window h = rw (no-voltage, no-times, no-mode, eq-eqb (o .code) code.window h)
 
         module _ (no-window : o .code ≡ code.window → ⊥) where
-          pub bits-switched : isSwitched o ≡ true → ((o .a + 2 * o .b) ∷ 0 ∷ 0 ∷ 0 ∷ []) ≡ four (bitsOf o)
+          pub bits-switched : isSwitched o ≡ true → (switched (o .a) (o .b) ∷ 0 ∷ 0 ∷ 0 ∷ []) ≡ four (bitsOf o)
           unfolding bitsOf
           bits-switched h = rw (no-voltage, no-times, no-mode, ne-eqb (o .code) code.window no-window, h)
 
-          module _ (no-switched : isSwitched o ≡ false) where
-            pub bits-mirror : (s : ℕ) → s ≡ sineRegister (o .a) → o .code ≡ code.mirror → (s / 256 ∷ s % 256 ∷ o .b / 256 ∷ o .b % 256 ∷ []) ≡ four (bitsOf o)
-            unfolding bitsOf
-            bits-mirror s is h = rw (is, no-voltage, no-times, no-mode, ne-eqb (o .code) code.window no-window, no-switched, eq-eqb (o .code) code.mirror h)
-
-            module _ (no-mirror : o .code ≡ code.mirror → ⊥) where
-              pub bits-motor : (s : ℕ) → s ≡ switchData (o .a) → o .code ≡ code.motor → (s ∷ 0 ∷ 0 ∷ 0 ∷ []) ≡ four (bitsOf o)
-              unfolding bitsOf
-              bits-motor s is h = rw (is, no-voltage, no-times, no-mode, ne-eqb (o .code) code.window no-window, no-switched, ne-eqb (o .code) code.mirror no-mirror, eq-eqb (o .code) code.motor h)
-
-              module _ (no-motor : o .code ≡ code.motor → ⊥) where
-                pub bits-cover : o .code ≡ code.cover → ((o .a * 512 + o .b * 256 + o .c * 128 + o .d) ∷ 0 ∷ 0 ∷ 0 ∷ []) ≡ four (bitsOf o)
-                unfolding bitsOf
-                bits-cover h = rw (no-voltage, no-times, no-mode, ne-eqb (o .code) code.window no-window, no-switched, ne-eqb (o .code) code.mirror no-mirror, ne-eqb (o .code) code.motor no-motor, eq-eqb (o .code) code.cover h)
-
-                pub bits-none : (o .code ≡ code.cover → ⊥) → (0 ∷ 0 ∷ 0 ∷ 0 ∷ []) ≡ four (bitsOf o)
-                unfolding bitsOf
-                bits-none h = rw (no-voltage, no-times, no-mode, ne-eqb (o .code) code.window no-window, no-switched, ne-eqb (o .code) code.mirror no-mirror, ne-eqb (o .code) code.motor no-motor, ne-eqb (o .code) code.cover h) (go (is o code.expose || is o code.housekeeping))
-                  where
-                    go : (z : Bool) → (0 ∷ 0 ∷ 0 ∷ 0 ∷ []) ≡ four (cond z (0 ∷ []) [])
-                    go true = refl
-                    go false = refl
+          pub bits-act : (l : List ℕ) → isSwitched o ≡ false → l ≡ four (actBits o) → l ≡ four (bitsOf o)
+          unfolding bitsOf
+          bits-act l h is = rw (no-voltage, no-times, no-mode, ne-eqb (o .code) code.window no-window, h) is
 
 -- an order that does not fit has no words
-pub listed-none : (o : Order) (f : Bool) → f ≡ fit o → not f ≡ true → record { count = 0; list = 0 ∷ 0 ∷ 0 ∷ 0 ∷ [] } ≡ listed (wordsIfFit o)
+pub listed-none : (o : Order) (f : Bool) → f ≡ fit o → not f ≡ true
+    → record { count = 0; list = 0 ∷ 0 ∷ 0 ∷ 0 ∷ [] } ≡ listed (wordsIfFit o)
 unfolding listed wordsIfFit
 listed-none o f is-fit h = rw (← is-fit, not-true f h)

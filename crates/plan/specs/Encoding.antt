@@ -1,4 +1,5 @@
--- Document 01, "Plans": the words of an order by their kinds and data, as code gives them.
+-- Document 01, "Plans": the words of an order once more, by the kind and the data of each, as the code makes them. They are those of
+-- `wordsOf`: law `words-are` of proofs/OrderWords.antt.
 -- Assumes nothing.
 use Prim.Native.Nat.{ℕ, _/_, _%_}
 use mathlib.Core.Bool.{Bool, cond, _||_}
@@ -54,6 +55,14 @@ isMode o = is o code.windowMode || is o code.detector
 abbrev pub isSwitched : Order → Bool
 isSwitched o = is o code.ccdLamp || is o code.irLamp || (is o code.shutter || is o code.annealing)
 
+-- The data of the words that move the mirror or the cover, or start a task.
+unfoldable pub actBits : Order → List ℕ
+actBits o =
+    cond (is o code.mirror) (sineRegister (o .a) / 256 ∷ sineRegister (o .a) % 256 ∷ o .b / 256 ∷ o .b % 256 ∷ [])
+    (cond (is o code.motor) (switchData (o .a) ∷ [])
+    (cond (is o code.cover) (coverBits (o .a) (o .b) (o .c) (o .d) ∷ [])
+    (cond (is o code.expose || is o code.housekeeping) (0 ∷ []) [])))
+
 -- The data of each word.
 unfoldable pub bitsOf : Order → List ℕ
 bitsOf o =
@@ -61,11 +70,7 @@ bitsOf o =
     (cond (isTimes o) (o .a ∷ o .b ∷ [])
     (cond (isMode o) (o .a ∷ [])
     (cond (is o code.window) (o .a ∷ o .b ∷ o .c ∷ o .d ∷ [])
-    (cond (isSwitched o) (switched (o .a) (o .b) ∷ [])
-    (cond (is o code.mirror) (sineRegister (o .a) / 256 ∷ sineRegister (o .a) % 256 ∷ o .b / 256 ∷ o .b % 256 ∷ [])
-    (cond (is o code.motor) (switchData (o .a) ∷ [])
-    (cond (is o code.cover) (coverBits (o .a) (o .b) (o .c) (o .d) ∷ [])
-    (cond (is o code.expose || is o code.housekeeping) (0 ∷ []) []))))))))
+    (cond (isSwitched o) (switched (o .a) (o .b) ∷ []) (actBits o)))))
 
 -- The first four of a list; 0 past its end.
 abbrev pub four : List ℕ → List ℕ

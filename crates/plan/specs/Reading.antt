@@ -1,9 +1,8 @@
 -- Document 01, "Plans": a plan read without words, order by order, from given settings and an empty log.
 -- Assumes nothing.
 use Prim.Native.Nat.{ℕ}
-use mathlib.Core.Bool.{Bool, cond}
+use mathlib.Core.Bool.{cond}
 use mathlib.Core.List.{List, [], _∷_, _++_}
-use lib.Dec.{eqb}
 use Rattle.words.specs.Fields.{switched}
 use Rattle.head.specs.declared.state.Settings.{Settings}
 use Rattle.plan.specs.Codes as code

@@ -1,9 +1,9 @@
 -- Document 01, "Plans": a stored plan, read into its orders or refused with a number and a byte place.
 -- Assumes nothing.
 use Prim.Native.Nat.{ℕ, zero, suc, _+_, _*_}
-use mathlib.Core.Bool.{Bool, true, false, cond, not, _&&_, _||_}
+use mathlib.Core.Bool.{cond, not, _||_}
 use mathlib.Core.List.{List, [], _∷_}
-use lib.Dec.{leb, ltb, eqb}
+use lib.Dec.{ltb, eqb}
 use lib.ListN.{length, getD}
 use Rattle.plan.specs.Codes.{countOf, widthOf, known, lengthOf, fieldsFit}
 use Rattle.plan.specs.declared.order.Order.{Order}

@@ -1,9 +1,9 @@
 -- Document 01, "Plans": the words of an order, in field order, M before L.
 -- Assumes nothing.
 use Prim.Native.Nat.{ℕ, _+_, _-_, _/_, _%_}
-use mathlib.Core.Bool.{Bool, cond}
+use mathlib.Core.Bool.{cond}
 use mathlib.Core.List.{List, [], _∷_, map, _++_}
-use lib.Dec.{eqb, ltb}
+use lib.Dec.{ltb}
 use Rattle.words.specs.Fields.{switched, coverBits}
 use Rattle.words.specs.Kinds as kind
 use Rattle.words.specs.Codec.{wordOf}

@@ -9,7 +9,7 @@ ghost use mathlib.Core.Path.{_≡_};
 ghost use Prim.Native.Nat.{_<_};
 ghost use lib.ListN.{length, getD};
 ghost use Rattle.plan.specs.Words.{sineRegister, switchData};
-ghost use Rattle.plan.specs.Encoding.{kindsOf, bitsOf, four, wordIfAllowed, wordsIfFit, listed};
+ghost use Rattle.plan.specs.Encoding.{kindsOf, actBits, bitsOf, four, wordIfAllowed, wordsIfFit, listed};
 
 // The words of an order, at most four; places past the count hold 0.
 pub struct Words {
@@ -61,7 +61,11 @@ const KINDS: [[u8; 4]; 18] = [
     [kinds::NOP, kinds::NOP, kinds::NOP, kinds::NOP],
 ];
 
-// The sine as the head's register holds it: the sign in bit 12 above the magnitude. Sine 0 is plus.
+// Data have ten bits.
+const MOST_DATA: u32 = 1023;
+
+// The sine as the head's register holds it: the sign in bit 12 above the magnitude. Sine 0 is plus; a
+// negative sine is stored as 65536 less its magnitude.
 pub fn sine_register(sine: u16) -> u16
     ensures { λ r. ⌜ r ≡ sineRegister sine ⌝ }
 {
@@ -76,7 +80,7 @@ pub fn sine_register(sine: u16) -> u16
 fn word_of(kind: u8, bits: u32) -> u16
     ensures { λ r. ⌜ r ≡ wordIfAllowed kind bits ⌝ }
 {
-    if 1023 < bits {
+    if MOST_DATA < bits {
         return 0;
     }
     let encoded = encode(kind, bits as u16);
@@ -111,6 +115,31 @@ fn switch_bits(motor: u32) -> u32
 }
 
 impl Order {
+    // The data of the words that move the mirror or the cover, or start a task.
+    fn act_bits(self) -> [u32; 4]
+        ensures { λ r. ⌜ r ≡ four (actBits self) ⌝ }
+    {
+        let code = self.code;
+        let a = self.a as u32;
+        let b = self.b as u32;
+        if code == codes::MIRROR {
+            let sine = sine_register(self.a) as u32;
+            return [sine / 256, sine % 256, b / 256, b % 256];
+        }
+        if code == codes::MOTOR {
+            return [switch_bits(a), 0, 0, 0];
+        }
+        if code == codes::COVER {
+            return [
+                a * 512 + b * 256 + self.c as u32 * 128 + self.d as u32,
+                0,
+                0,
+                0,
+            ];
+        }
+        [0, 0, 0, 0]
+    }
+
     // The data of the order's words.
     fn bits(self) -> [u32; 4]
         ensures { λ r. ⌜ r ≡ four (bitsOf self) ⌝ }
@@ -118,8 +147,6 @@ impl Order {
         let code = self.code;
         let a = self.a as u32;
         let b = self.b as u32;
-        let c = self.c as u32;
-        let d = self.d as u32;
         let voltage = (code == codes::VDETCOM) | (code == codes::VDETADJ);
         if voltage {
             return [a / 256, a % 256, 0, 0];
@@ -133,24 +160,14 @@ impl Order {
             return [a, 0, 0, 0];
         }
         if code == codes::WINDOW {
-            return [a, b, c, d];
+            return [a, b, self.c as u32, self.d as u32];
         }
         let lamp = (code == codes::CCD_LAMP) | (code == codes::IR_LAMP);
         let level = (code == codes::SHUTTER) | (code == codes::ANNEALING);
         if lamp | level {
             return [a + 2 * b, 0, 0, 0];
         }
-        if code == codes::MIRROR {
-            let sine = sine_register(self.a) as u32;
-            return [sine / 256, sine % 256, b / 256, b % 256];
-        }
-        if code == codes::MOTOR {
-            return [switch_bits(a), 0, 0, 0];
-        }
-        if code == codes::COVER {
-            return [a * 512 + b * 256 + c * 128 + d, 0, 0, 0];
-        }
-        [0, 0, 0, 0]
+        self.act_bits()
     }
 
     // The words of the order; an order that does not fit has none.

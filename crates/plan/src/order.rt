@@ -4,7 +4,7 @@ use crate::codes::WINDOW;
 use crate::codes::holds;
 use crate::codes::is_known;
 ghost use mathlib.Core.Path.{_≡_};
-ghost use Rattle.plan.specs.Codes.{within, rowOf, fieldsOf, related, fieldsFit, fit};
+ghost use Rattle.plan.specs.Codes.{related, fieldsFit, fit};
 
 // An order: its code, and its fields in the order in which they are stored; a field that the code has not is 0.
 pub struct Order {
@@ -18,7 +18,7 @@ pub struct Order {
 impl Order {
     // X2 - X1 in a window order.
     pub const WINDOW_WIDTH: u32 = 875;
-    // The greatest sine, and the least negative one as two's complement.
+    // The greatest sine, and the least as two's complement.
     pub const GREATEST_SINE: u16 = 4095;
 
     pub const LEAST_SINE: u16 = 61441;

@@ -1,3 +1,5 @@
+-- `plan::codes::count_of` meets its contract: the table agrees with `countOf` at every place.
+-- Assumes nothing.
 use borrow.Author.Needs.{needs}
 use Rattle.plan.specs.Codes.{rows, countOf}
 use Rattle.plan.proofs.Rows.{place-fits, place-index, count-by}

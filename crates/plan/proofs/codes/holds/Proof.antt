@@ -1,3 +1,5 @@
+-- `plan::codes::holds` meets its contract: the two tables agree with `rangeOf` at every field.
+-- Assumes nothing.
 use borrow.Author.Needs.{needs}
 use Rattle.plan.specs.Codes.{rows, rangeOf}
 use Rattle.plan.proofs.Rows.{place-fits, place-index, holds-past, holds-by}

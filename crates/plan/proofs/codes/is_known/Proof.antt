@@ -1,3 +1,5 @@
+-- `plan::codes::is_known` meets its contract.
+-- Assumes nothing.
 use mathlib.Core.Path.{refl}
 use Rattle.plan.specs.Codes.{known}
 use Rattle.plan.proofs.codes.is_known.Statement.{statement}

@@ -1,3 +1,5 @@
+-- `plan::codes::length_of` meets its contract, and the length fits.
+-- Assumes nothing.
 use borrow.Author.Needs.{needs}
 use Rattle.plan.proofs.Rows.{fields-fit, length-fits, length-is}
 use Rattle.plan.proofs.codes.length_of.Statement.{statement}

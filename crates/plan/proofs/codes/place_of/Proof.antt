@@ -1,3 +1,5 @@
+-- `plan::codes::place_of` meets its contract.
+-- Assumes nothing.
 use borrow.Author.Needs.{needs}
 use Rattle.plan.proofs.Rows.{place-code, place-none}
 use Rattle.plan.proofs.codes.place_of.Statement.{statement}

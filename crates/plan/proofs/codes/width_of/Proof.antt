@@ -1,3 +1,5 @@
+-- `plan::codes::width_of` meets its contract: the table agrees with `widthOf` at every place.
+-- Assumes nothing.
 use borrow.Author.Needs.{needs}
 use Rattle.plan.specs.Codes.{rows, widthOf}
 use Rattle.plan.proofs.Rows.{place-fits, place-index, width-by}

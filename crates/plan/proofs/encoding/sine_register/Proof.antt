@@ -1,3 +1,5 @@
+-- `plan::encoding::sine_register` meets its contract.
+-- Assumes nothing.
 use borrow.Author.Needs.{needs}
 use Rattle.plan.proofs.Sending.{sine-plus, sine-minus}
 use Rattle.plan.proofs.encoding.sine_register.Statement.{statement}

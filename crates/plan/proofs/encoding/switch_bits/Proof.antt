@@ -1,3 +1,5 @@
+-- `plan::encoding::switch_bits` meets its contract.
+-- Assumes nothing.
 use borrow.Author.Needs.{needs}
 use Rattle.plan.proofs.encoding.switch_bits.Statement.{statement}
 use Rattle.plan.proofs.encoding.switch_bits.Tie as tie

@@ -1,3 +1,5 @@
+-- `plan::encoding::word_count` meets its contract: the table agrees with the numbers of `kindsOf`.
+-- Assumes nothing.
 use borrow.Author.Needs.{needs}
 use Rattle.plan.specs.Encoding.{kindsOf, kindRows}
 use Rattle.plan.proofs.Rows.{place-index, place-fits}

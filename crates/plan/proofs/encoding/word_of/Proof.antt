@@ -1,3 +1,5 @@
+-- `plan::encoding::word_of` meets its contract: what `encode` makes or refuses.
+-- Assumes nothing.
 use borrow.Author.Needs.{needs}
 use Rattle.plan.proofs.Sending.{word-large, word-made, word-refused}
 use Rattle.plan.proofs.encoding.word_of.Statement.{statement}

@@ -1,3 +1,5 @@
+-- `plan::stored::byte_at` meets its contract.
+-- Assumes nothing.
 use borrow.Author.Needs.{needs}
 use Rattle.plan.proofs.Bytes.{byte-past}
 use Rattle.plan.proofs.stored.byte_at.Statement.{statement}

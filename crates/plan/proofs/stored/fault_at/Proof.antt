@@ -1,3 +1,5 @@
+-- `plan::stored::fault_at` meets its contract: each way through the code is a law of `Bytes`.
+-- Assumes nothing.
 use borrow.Author.Needs.{needs}
 use Rattle.plan.proofs.Bytes.{fault-none, fault-empty, fault-past, fault-unknown, fault-length, fault-nothing, fault-field}
 use Rattle.plan.proofs.stored.fault_at.Statement.{statement}

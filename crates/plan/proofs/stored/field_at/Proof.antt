@@ -1,3 +1,5 @@
+-- `plan::stored::field_at` meets its contract: each way through the code is a law of `Bytes`.
+-- Assumes nothing.
 use borrow.Author.Needs.{needs}
 use Rattle.plan.proofs.Bytes.{field-none, field-two, field-one}
 use Rattle.plan.proofs.stored.field_at.Statement.{statement}

@@ -1,3 +1,5 @@
+-- `plan::stored::judge` meets its contract: each way through the header is a law of `Judging`.
+-- Assumes nothing.
 use borrow.Author.Needs.{needs}
 use Rattle.plan.proofs.Judging.{plan-short, plan-version, plan-length, plan-orders}
 use Rattle.plan.proofs.stored.judge.Statement.{statement}

@@ -1,3 +1,6 @@
+-- `plan::stored::judge_orders` meets its contract. The loop's invariant: the whole answer is that of the orders from here on, the ones
+-- passed counted. The measure is what is left of the bytes.
+-- Assumes nothing.
 use Prim.Native.Nat.{_-_, _≤_}
 use mathlib.Core.Path.{_≡_}
 use borrow.Author.Needs.{needs}

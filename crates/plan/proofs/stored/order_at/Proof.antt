@@ -1,3 +1,5 @@
+-- `plan::stored::order_at` meets its contract.
+-- Assumes nothing.
 use borrow.Author.Needs.{needs}
 use Rattle.plan.proofs.Bytes.{order-past, order-read}
 use Rattle.plan.proofs.stored.order_at.Statement.{statement}

@@ -1,3 +1,5 @@
+-- `plan::order::Order::fields_fit` meets its contract: a field that the code has not may hold anything.
+-- Assumes nothing.
 use borrow.Author.Needs.{needs}
 use Rattle.plan.proofs.Fit.{fields-fit-each}
 use Rattle.plan.proofs.order.Order.fields_fit.Statement.{statement}

@@ -1,3 +1,5 @@
+-- `plan::order::Order::fits` meets its contract.
+-- Assumes nothing.
 use borrow.Author.Needs.{needs}
 use Rattle.plan.proofs.Fit.{fit-both}
 use Rattle.plan.proofs.order.Order.fits.Statement.{statement}

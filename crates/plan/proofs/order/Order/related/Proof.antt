@@ -1,3 +1,5 @@
+-- `plan::order::Order::related` meets its contract.
+-- Assumes nothing.
 use borrow.Author.Needs.{needs}
 use Rattle.plan.proofs.Fit.{related-window, related-mirror, related-other}
 use Rattle.plan.proofs.order.Order.related.Statement.{statement}

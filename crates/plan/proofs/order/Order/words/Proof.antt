@@ -1,3 +1,5 @@
+-- `plan::order::Order::words` meets its contract: the words of an order that fits are those of its kinds and data.
+-- Assumes nothing.
 use borrow.Author.Needs.{needs}
 use Rattle.plan.proofs.Sending.{listed-none}
 use Rattle.plan.proofs.OrderWords.{listed-by}
