@@ -62,10 +62,10 @@ visFlagFields =
     ∷ []
 
 -- The word whose fields hold these values, each in its field's width. All other bits 0.
-unfoldable pub wordOf : List Field → List ℕ → ℕ
-wordOf [] vs = 0
-wordOf (f ∷ fs) [] = 0
-wordOf (f ∷ fs) (v ∷ vs) = v % 2 ^ f .width * 2 ^ f .lowest + wordOf fs vs
+unfoldable pub composed : List Field → List ℕ → ℕ
+composed [] vs = 0
+composed (f ∷ fs) [] = 0
+composed (f ∷ fs) (v ∷ vs) = v % 2 ^ f .width * 2 ^ f .lowest + composed fs vs
 
 -- The values that a word holds in its fields.
 unfoldable pub valuesIn : List Field → ℕ → List ℕ
@@ -76,29 +76,29 @@ valuesIn (f ∷ fs) w = w / 2 ^ f .lowest % 2 ^ f .width ∷ valuesIn fs w
 abbrev pub bit : Bool → ℕ
 bit b = cond b 1 0
 
-abbrev pub set : ℕ → Bool
-set v = eqb v 1
+abbrev pub isSet : ℕ → Bool
+isSet v = eqb v 1
 
 unfoldable pub lampShutterWord : LampShutter → ℕ
 lampShutterWord l =
-    wordOf lampShutterFields (l .lampcurrent ∷ bit (l .lampon) ∷ l .shuttercurrent ∷ bit (l .closed) ∷ [])
+    composed lampShutterFields (l .lampcurrent ∷ bit (l .lampon) ∷ l .shuttercurrent ∷ bit (l .closed) ∷ [])
 
 unfoldable pub lampShutterIn : ℕ → LampShutter
 lampShutterIn w =
     let v : ℕ → ℕ = λ k. getD (valuesIn lampShutterFields w) k 0 in
-    record { lampcurrent = v 0; lampon = set (v 1); shuttercurrent = v 2; closed = set (v 3) }
+    record { lampcurrent = v 0; lampon = isSet (v 1); shuttercurrent = v 2; closed = isSet (v 3) }
 
 unfoldable pub sineWord : Sine → ℕ
-sineWord s = wordOf sineFields (s .magnitude ∷ bit (s .negative) ∷ [])
+sineWord s = composed sineFields (s .magnitude ∷ bit (s .negative) ∷ [])
 
 unfoldable pub sineIn : ℕ → Sine
 sineIn w =
     let v : ℕ → ℕ = λ k. getD (valuesIn sineFields w) k 0 in
-    record { magnitude = v 0; negative = set (v 1) }
+    record { magnitude = v 0; negative = isSet (v 1) }
 
 unfoldable pub irFlagWord : IrFlags → ℕ
 irFlagWord f =
-    wordOf irFlagFields
+    composed irFlagFields
     (bit (f .acquired)
     ∷ 1
     ∷ bit (f .time)
@@ -114,7 +114,7 @@ irFlagWord f =
 
 unfoldable pub irFlagsIn : ℕ → IrFlags
 irFlagsIn w =
-    let v : ℕ → Bool = λ k. set (getD (valuesIn irFlagFields w) k 0) in
+    let v : ℕ → Bool = λ k. isSet (getD (valuesIn irFlagFields w) k 0) in
     record {
       acquired = v 0;
       time = v 2;
@@ -130,10 +130,10 @@ irFlagsIn w =
 
 unfoldable pub visFlagWord : VisFlags → ℕ
 visFlagWord f =
-    wordOf visFlagFields
+    composed visFlagFields
     (bit (f .acquired) ∷ 1 ∷ bit (f .time) ∷ bit (f .word) ∷ bit (f .latchup) ∷ bit (f .lampon) ∷ [])
 
 unfoldable pub visFlagsIn : ℕ → VisFlags
 visFlagsIn w =
-    let v : ℕ → Bool = λ k. set (getD (valuesIn visFlagFields w) k 0) in
+    let v : ℕ → Bool = λ k. isSet (getD (valuesIn visFlagFields w) k 0) in
     record { acquired = v 0; time = v 2; word = v 3; latchup = v 4; lampon = v 5 }

@@ -1,7 +1,7 @@
 -- `blocks::status::IrFlags::word` meets its contract.
 -- Assumes nothing.
 use native.Mathlib.Omega.{arith}
-use Rattle.blocks.specs.Status.{irFlagWord, irFlagFields, wordOf}
+use Rattle.blocks.specs.Status.{irFlagWord, irFlagFields, composed}
 use Rattle.blocks.proofs.Fields.{bit-fits}
 use borrow.Author.Needs.{needs}
 use Rattle.blocks.proofs.status.IrFlags.word.Statement.{statement}
@@ -38,7 +38,7 @@ add-result-3 : tie.Need-add-result-3
 add-result-3 c = search needs
 
 returns : tie.Need-returns
-unfolding irFlagWord irFlagFields wordOf
+unfolding irFlagWord irFlagFields composed
 returns c = simp bit-fits (omega arith)
 
 pub word-spec : {M : Type 1} → statement M

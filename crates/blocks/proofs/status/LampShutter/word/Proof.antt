@@ -1,7 +1,7 @@
 -- `blocks::status::LampShutter::word` meets its contract.
 -- Assumes nothing.
 use native.Mathlib.Omega.{arith}
-use Rattle.blocks.specs.Status.{lampShutterWord, lampShutterFields, wordOf}
+use Rattle.blocks.specs.Status.{lampShutterWord, lampShutterFields, composed}
 use Rattle.blocks.proofs.Fields.{bit-fits}
 use borrow.Author.Needs.{needs}
 use Rattle.blocks.proofs.status.LampShutter.word.Statement.{statement}
@@ -32,7 +32,7 @@ add-result : tie.Need-add-result
 add-result c = search needs
 
 returns : tie.Need-returns
-unfolding lampShutterWord lampShutterFields wordOf
+unfolding lampShutterWord lampShutterFields composed
 returns c = simp bit-fits (omega arith)
 
 pub word-spec : {M : Type 1} → statement M

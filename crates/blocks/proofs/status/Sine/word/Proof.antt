@@ -1,7 +1,7 @@
 -- `blocks::status::Sine::word` meets its contract.
 -- Assumes nothing.
 use native.Mathlib.Omega.{arith}
-use Rattle.blocks.specs.Status.{sineWord, sineFields, wordOf}
+use Rattle.blocks.specs.Status.{sineWord, sineFields, composed}
 use Rattle.blocks.proofs.Fields.{bit-fits}
 use borrow.Author.Needs.{needs}
 use Rattle.blocks.proofs.status.Sine.word.Statement.{statement}
@@ -17,7 +17,7 @@ add-result : tie.Need-add-result
 add-result c = search needs
 
 returns : tie.Need-returns
-unfolding sineWord sineFields wordOf
+unfolding sineWord sineFields composed
 returns c = simp bit-fits (omega arith)
 
 pub word-spec : {M : Type 1} → statement M

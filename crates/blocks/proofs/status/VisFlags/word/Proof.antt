@@ -1,7 +1,7 @@
 -- `blocks::status::VisFlags::word` meets its contract.
 -- Assumes nothing.
 use native.Mathlib.Omega.{arith}
-use Rattle.blocks.specs.Status.{visFlagWord, visFlagFields, wordOf}
+use Rattle.blocks.specs.Status.{visFlagWord, visFlagFields, composed}
 use Rattle.blocks.proofs.Fields.{bit-fits}
 use borrow.Author.Needs.{needs}
 use Rattle.blocks.proofs.status.VisFlags.word.Statement.{statement}
@@ -29,7 +29,7 @@ add-result-2 : tie.Need-add-result-2
 add-result-2 c = search needs
 
 returns : tie.Need-returns
-unfolding visFlagWord visFlagFields wordOf
+unfolding visFlagWord visFlagFields composed
 returns c = simp bit-fits (omega arith)
 
 pub word-spec : {M : Type 1} → statement M
