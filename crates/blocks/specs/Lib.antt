@@ -1,1 +1,4 @@
 pub mod Status
+pub mod Numbers
+pub mod Written
+pub mod Ir

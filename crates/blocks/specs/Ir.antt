@@ -1,0 +1,114 @@
+-- Document 01, "Blocks": the IR block.
+-- Assumes nothing.
+use Prim.Native.Nat.{ℕ}
+use mathlib.Core.Bool.{Bool, cond, not, _&&_, _||_}
+use mathlib.Core.List.{List, [], _∷_, _++_}
+use lib.Dec.{eqb}
+use lib.ListN.{length, getD, take, replicate}
+use Rattle.words.specs.Fields.{on, current}
+use Rattle.words.specs.Kinds as kind
+use Rattle.words.specs.Kinds.{allowed}
+use Rattle.head.specs.declared.state.Flags.{Flags}
+use Rattle.head.specs.declared.state.Head.{Head}
+use Rattle.blocks.specs.Status.{isSet, lampShutterWord, lampShutterIn, irFlagWord, irFlagsIn}
+use Rattle.blocks.specs.declared.refusal.Refusal.the-variants.{Length, FixedBit, OutOfRange}
+use Rattle.blocks.specs.declared.ir.IrBits.{IrBits}
+use Rattle.blocks.specs.declared.ir.IrMeaning.{IrMeaning}
+use Rattle.blocks.specs.declared.ir.IrAnswer.{IrAnswer}
+use Rattle.blocks.specs.declared.ir.IrAnswer.the-variants.{Block, Refused}
+use Rattle.blocks.specs.declared.ir.IrRead.{IrRead}
+
+abbrev pub irWords : ℕ
+irWords = 20
+
+abbrev pub irReadings : ℕ
+irReadings = 14
+
+-- Y1, Y2: 0, 269 full; 90, 179 reduced.
+abbrev pub firstLine : ℕ → ℕ
+firstLine mode = cond (eqb mode 0) 0 90
+
+abbrev pub lastLine : ℕ → ℕ
+lastLine mode = cond (eqb mode 0) 269 179
+
+-- What the block shows of a state, the five flags, whether an acquisition ended and the caller's bits.
+unfoldable pub irShown : Head → Flags → Bool → IrBits → IrMeaning
+irShown s f acquired b =
+    let r = s .settings in
+    record {
+      mode = r .mode;
+      delay = r .irdelay;
+      expo = r .irexpo;
+      lampshutter =
+          record {
+            lampcurrent = current (r .irlamp);
+            lampon = isSet (on (r .irlamp));
+            shuttercurrent = current (r .shutter);
+            closed = isSet (on (r .shutter));
+          };
+      flags =
+          record {
+            acquired = acquired;
+            time = f .irtime;
+            word = f .irword;
+            scan = f .scan;
+            detector = isSet (r .detector);
+            latchup = b .latchup;
+            annealing = isSet (on (r .annealing));
+            opens = isSet (r .direction);
+            notclosed = b .notclosed;
+            notopen = b .notopen;
+          };
+    }
+
+-- Y1, Y2, delay, expo, lamp and shutter, flags.
+unfoldable pub irStatus : IrMeaning → List ℕ
+irStatus m =
+    firstLine (m .mode)
+    ∷ lastLine (m .mode)
+    ∷ m .delay
+    ∷ m .expo
+    ∷ lampShutterWord (m .lampshutter)
+    ∷ irFlagWord (m .flags)
+    ∷ []
+
+-- The block: 14 readings from the caller, then the status words.
+unfoldable pub irBlockOf : Head → Flags → Bool → List ℕ → IrBits → List ℕ
+irBlockOf s f acquired readings b = readings ++ irStatus (irShown s f acquired b)
+
+-- The pairs of lines that there are.
+abbrev pub linesRight : ℕ → ℕ → Bool
+linesRight y1 y2 = (eqb y1 0 && eqb y2 269) || (eqb y1 90 && eqb y2 179)
+
+abbrev pub modeOf : ℕ → ℕ
+modeOf y1 = cond (eqb y1 0) 0 1
+
+unfoldable pub irMeaningIn : List ℕ → IrMeaning
+irMeaningIn ws =
+    record {
+      mode = modeOf (getD ws 14 0);
+      delay = getD ws 16 0;
+      expo = getD ws 17 0;
+      lampshutter = lampShutterIn (getD ws 18 0);
+      flags = irFlagsIn (getD ws 19 0);
+    }
+
+-- 11; then word by word: 13 a value out of range, a wrong pair of lines told at Y2; 12 a fixed bit is wrong, that is, the word is
+-- not composed of the fields it holds.
+unfoldable pub irAnswerOf : List ℕ → IrAnswer
+irAnswerOf ws =
+    let w : ℕ → ℕ = λ k. getD ws k 0 in
+    cond (not (eqb (length ws) irWords)) (Refused Length)
+    (cond (not (linesRight (w 14) (w 15))) (Refused (OutOfRange 15))
+    (cond (not (allowed kind.irDelay (w 16))) (Refused (OutOfRange 16))
+    (cond (not (allowed kind.irExpo (w 17))) (Refused (OutOfRange 17))
+    (cond (not (eqb (lampShutterWord (lampShutterIn (w 18))) (w 18))) (Refused (FixedBit 18))
+    (cond (not (eqb (irFlagWord (irFlagsIn (w 19))) (w 19))) (Refused (FixedBit 19))
+    (Block (irMeaningIn ws)))))))
+
+unfoldable pub readingsOf : IrAnswer → List ℕ → List ℕ
+readingsOf (Block m) ws = take irReadings ws
+readingsOf (Refused r) ws = replicate irReadings 0
+
+unfoldable pub irReadOf : List ℕ → IrRead
+irReadOf ws = let a = irAnswerOf ws in record { readings = readingsOf a ws; answer = a }

@@ -1,0 +1,23 @@
+-- Document 01, "Blocks": a writer's answer, and what it leaves in the buffer.
+-- Assumes nothing.
+use Prim.Native.Nat.{ℕ}
+use mathlib.Core.Bool.{cond, not}
+use mathlib.Core.List.{List}
+use lib.Dec.{eqb}
+use lib.ListN.{length}
+use Rattle.head.specs.Range.{inRange}
+use Rattle.head.specs.declared.state.Head.{Head}
+use Rattle.blocks.specs.declared.refusal.Refusal.the-variants.{Length, State}
+use Rattle.blocks.specs.declared.refusal.Written.{Written}
+use Rattle.blocks.specs.declared.refusal.Written.the-variants.{Done, Refused}
+
+-- 11 a buffer that has not the block's n words, then 21 a state out of range.
+unfoldable pub writtenOf : ℕ → Head → List ℕ → Written
+writtenOf n s buffer =
+    cond (not (eqb (length buffer) n)) (Refused Length)
+    (cond (not (inRange s)) (Refused State) Done)
+
+-- A refusal writes nothing; a success gives every word of the buffer.
+unfoldable pub bufferAfter : Written → List ℕ → List ℕ → List ℕ
+bufferAfter Done block buffer = block
+bufferAfter (Refused r) block buffer = buffer

@@ -1,0 +1,1 @@
+// The CCD block: 16 readings and nine status words.
