@@ -10,7 +10,7 @@ use Rattle.words.specs.Kinds as kind
 use Rattle.words.specs.Kinds.{allowed}
 use Rattle.head.specs.declared.state.Flags.{Flags}
 use Rattle.head.specs.declared.state.Head.{Head}
-use Rattle.blocks.specs.Status.{isSet, lampShutterWord, lampShutterIn, irFlagWord, irFlagsIn}
+use Rattle.blocks.specs.Status.{isSet, lampShutterWord, lampShutterIn, lampShutterRight, irFlagWord, irFlagsIn, irFlagsRight}
 use Rattle.blocks.specs.declared.refusal.Refusal.the-variants.{Length, FixedBit, OutOfRange}
 use Rattle.blocks.specs.declared.ir.IrBits.{IrBits}
 use Rattle.blocks.specs.declared.ir.IrMeaning.{IrMeaning}
@@ -83,32 +83,36 @@ linesRight y1 y2 = (eqb y1 0 && eqb y2 269) || (eqb y1 90 && eqb y2 179)
 abbrev pub modeOf : ℕ → ℕ
 modeOf y1 = cond (eqb y1 0) 0 1
 
-unfoldable pub irMeaningIn : List ℕ → IrMeaning
-irMeaningIn ws =
+-- What right status words say.
+unfoldable pub irSaid : ℕ → ℕ → ℕ → ℕ → ℕ → IrMeaning
+irSaid y1 delay expo lampshutter flags =
     record {
-      mode = modeOf (getD ws 14 0);
-      delay = getD ws 16 0;
-      expo = getD ws 17 0;
-      lampshutter = lampShutterIn (getD ws 18 0);
-      flags = irFlagsIn (getD ws 19 0);
+      mode = modeOf y1;
+      delay = delay;
+      expo = expo;
+      lampshutter = lampShutterIn lampshutter;
+      flags = irFlagsIn flags;
     }
 
--- 11; then word by word: 13 a value out of range, a wrong pair of lines told at Y2; 12 a fixed bit is wrong, that is, the word is
--- not composed of the fields it holds.
+-- Word by word: 13 a value out of range, a wrong pair of lines told at Y2; 12 a fixed bit is wrong.
+unfoldable pub irJudged : ℕ → ℕ → ℕ → ℕ → ℕ → ℕ → IrAnswer
+irJudged y1 y2 delay expo lampshutter flags =
+    cond (not (linesRight y1 y2)) (Refused (OutOfRange 15))
+    (cond (not (allowed kind.irDelay delay)) (Refused (OutOfRange 16))
+    (cond (not (allowed kind.irExpo expo)) (Refused (OutOfRange 17))
+    (cond (not (lampShutterRight lampshutter)) (Refused (FixedBit 18))
+    (cond (not (irFlagsRight flags)) (Refused (FixedBit 19)) (Block (irSaid y1 delay expo lampshutter flags))))))
+
+-- 11 first.
 unfoldable pub irAnswerOf : List ℕ → IrAnswer
 irAnswerOf ws =
     let w : ℕ → ℕ = λ k. getD ws k 0 in
-    cond (not (eqb (length ws) irWords)) (Refused Length)
-    (cond (not (linesRight (w 14) (w 15))) (Refused (OutOfRange 15))
-    (cond (not (allowed kind.irDelay (w 16))) (Refused (OutOfRange 16))
-    (cond (not (allowed kind.irExpo (w 17))) (Refused (OutOfRange 17))
-    (cond (not (eqb (lampShutterWord (lampShutterIn (w 18))) (w 18))) (Refused (FixedBit 18))
-    (cond (not (eqb (irFlagWord (irFlagsIn (w 19))) (w 19))) (Refused (FixedBit 19))
-    (Block (irMeaningIn ws)))))))
+    cond (not (eqb (length ws) irWords)) (Refused Length) (irJudged (w 14) (w 15) (w 16) (w 17) (w 18) (w 19))
 
-unfoldable pub readingsOf : IrAnswer → List ℕ → List ℕ
-readingsOf (Block m) ws = take irReadings ws
-readingsOf (Refused r) ws = replicate irReadings 0
+-- The readings of a block that is read; a refused one gives none.
+unfoldable pub irReadingsOf : IrAnswer → List ℕ → List ℕ
+irReadingsOf (Block m) ws = take irReadings ws
+irReadingsOf (Refused r) ws = replicate irReadings 0
 
 unfoldable pub irReadOf : List ℕ → IrRead
-irReadOf ws = let a = irAnswerOf ws in record { readings = readingsOf a ws; answer = a }
+irReadOf ws = let a = irAnswerOf ws in record { readings = irReadingsOf a ws; answer = a }

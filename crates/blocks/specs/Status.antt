@@ -137,3 +137,16 @@ unfoldable pub visFlagsIn : ℕ → VisFlags
 visFlagsIn w =
     let v : ℕ → Bool = λ k. isSet (getD (valuesIn visFlagFields w) k 0) in
     record { acquired = v 0; time = v 2; word = v 3; latchup = v 4; lampon = v 5 }
+
+-- A fixed bit is wrong just where the word is not that of what it says.
+unfoldable pub lampShutterRight : ℕ → Bool
+lampShutterRight w = eqb (lampShutterWord (lampShutterIn w)) w
+
+unfoldable pub sineRight : ℕ → Bool
+sineRight w = eqb (sineWord (sineIn w)) w
+
+unfoldable pub irFlagsRight : ℕ → Bool
+irFlagsRight w = eqb (irFlagWord (irFlagsIn w)) w
+
+unfoldable pub visFlagsRight : ℕ → Bool
+visFlagsRight w = eqb (visFlagWord (visFlagsIn w)) w

@@ -1,7 +1,7 @@
 -- Document 01, "Blocks": a writer's answer, and what it leaves in the buffer.
 -- Assumes nothing.
 use Prim.Native.Nat.{ℕ}
-use mathlib.Core.Bool.{cond, not}
+use mathlib.Core.Bool.{Bool, cond, not}
 use mathlib.Core.List.{List}
 use lib.Dec.{eqb}
 use lib.ListN.{length}
@@ -12,10 +12,11 @@ use Rattle.blocks.specs.declared.refusal.Written.{Written}
 use Rattle.blocks.specs.declared.refusal.Written.the-variants.{Done, Refused}
 
 -- 11 a buffer that has not the block's n words, then 21 a state out of range.
+unfoldable pub writtenIf : ℕ → Bool → List ℕ → Written
+writtenIf n fine buffer = cond (not (eqb (length buffer) n)) (Refused Length) (cond (not fine) (Refused State) Done)
+
 unfoldable pub writtenOf : ℕ → Head → List ℕ → Written
-writtenOf n s buffer =
-    cond (not (eqb (length buffer) n)) (Refused Length)
-    (cond (not (inRange s)) (Refused State) Done)
+writtenOf n s buffer = writtenIf n (inRange s) buffer
 
 -- A refusal writes nothing; a success gives every word of the buffer.
 unfoldable pub bufferAfter : Written → List ℕ → List ℕ → List ℕ

@@ -1,5 +1,7 @@
 // The IR block: 14 readings and six status words.
+use crate::copy::copy_in;
 use crate::refusal::Refusal;
+use crate::refusal::Written;
 use crate::status::IrFlags;
 use crate::status::LampShutter;
 use head::state::Flags;
@@ -7,10 +9,14 @@ use head::state::Head;
 use words::allows;
 use words::kinds::IR_DELAY;
 use words::kinds::IR_EXPO;
+ghost use Prim.Native.Nat.{_≤_};
 ghost use mathlib.Core.Path.{_≡_};
 ghost use mathlib.Core.Bool.{cond};
+ghost use mathlib.Core.List.{_++_};
 ghost use lib.Dec.{eqb};
-ghost use Rattle.blocks.specs.Ir.{ irShown, irStatus, irAnswerOf, irReadOf};
+ghost use lib.ListN.{length, take};
+ghost use Rattle.blocks.specs.Written.{writtenIf, bufferAfter};
+ghost use Rattle.blocks.specs.Ir.{irWords, irReadings, linesRight, irShown, irSaid, irStatus, irJudged, irReadOf};
 
 pub const IR_WORDS: usize = 20;
 
@@ -82,6 +88,19 @@ impl IrMeaning {
         }
     }
 
+    // What right status words say.
+    fn said(y1: u16, delay: u16, expo: u16, lampshutter: u16, flags: u16) -> IrMeaning
+        ensures { λ r. ⌜ r ≡ irSaid y1 delay expo lampshutter flags ⌝ }
+    {
+        IrMeaning {
+            mode: choose(y1, 0, 1),
+            delay,
+            expo,
+            lampshutter: LampShutter::in_word(lampshutter),
+            flags: IrFlags::in_word(flags),
+        }
+    }
+
     // The status words.
     pub fn status(self) -> [u16; 6]
         ensures { λ r. ⌜ r ≡ irStatus self ⌝ }
@@ -98,4 +117,93 @@ impl IrMeaning {
             flags.word(),
         ]
     }
+}
+
+// Whether the lines are those of a window mode.
+fn lines_right(y1: u16, y2: u16) -> bool
+    ensures { λ r. ⌜ r ≡ linesRight y1 y2 ⌝ }
+{
+    ((y1 == 0) & (y2 == 269)) | ((y1 == 90) & (y2 == 179))
+}
+
+// Judges the status words one by one; the first faulty word decides.
+fn judge(y1: u16, y2: u16, delay: u16, expo: u16, lampshutter: u16, flags: u16) -> IrAnswer
+    ensures { λ r. ⌜ r ≡ irJudged y1 y2 delay expo lampshutter flags ⌝ }
+{
+    if !lines_right(y1, y2) {
+        return IrAnswer::Refused(Refusal::OutOfRange { place: 15 });
+    }
+    if !allows(IR_DELAY, delay) {
+        return IrAnswer::Refused(Refusal::OutOfRange { place: 16 });
+    }
+    if !allows(IR_EXPO, expo) {
+        return IrAnswer::Refused(Refusal::OutOfRange { place: 17 });
+    }
+    if !LampShutter::right(lampshutter) {
+        return IrAnswer::Refused(Refusal::FixedBit { place: 18 });
+    }
+    if !IrFlags::right(flags) {
+        return IrAnswer::Refused(Refusal::FixedBit { place: 19 });
+    }
+    IrAnswer::Block(IrMeaning::said(y1, delay, expo, lampshutter, flags))
+}
+
+fn readings_of(words: &[u16]) -> [u16; 14]
+    requires { ⌜ irReadings ≤ length (now words) ⌝ }
+    ensures { λ r. ⌜ r ≡ take irReadings (now (words .entry)) ⌝ }
+{
+    let mut readings = [0u16; 14];
+    copy_in(words, &mut readings, 0, IR_READINGS);
+    readings
+}
+
+pub fn read_ir(words: &[u16]) -> IrRead
+    ensures { λ r. ⌜ r ≡ irReadOf (now (words .entry)) ⌝ }
+{
+    if words.len() != IR_WORDS {
+        let none = [0u16; 14];
+        return IrRead {
+            readings: none,
+            answer: IrAnswer::Refused(Refusal::Length),
+        };
+    }
+    let answer = judge(
+        words[14],
+        words[15],
+        words[16],
+        words[17],
+        words[18],
+        words[19],
+    );
+    let IrAnswer::Block(_) = answer else {
+        let none = [0u16; 14];
+        return IrRead {
+            readings: none,
+            answer,
+        };
+    };
+    let readings = readings_of(words);
+    IrRead { readings, answer }
+}
+
+// Writes the block of a state; in_range says whether the state is in range.
+fn write_judged(
+    in_range: bool,
+    meaning: IrMeaning,
+    readings: [u16; 14],
+    buffer: &mut [u16],
+) -> Written
+    ensures { λ r. ⌜ r ≡ writtenIf irWords in_range (now (buffer .entry)) ⌝ }
+    ensures { λ r. ⌜ now (buffer .exit) ≡ bufferAfter r (readings ++ irStatus meaning) (now (buffer .entry)) ⌝ }
+{
+    if buffer.len() != IR_WORDS {
+        return Written::Refused(Refusal::Length);
+    }
+    if !in_range {
+        return Written::Refused(Refusal::State);
+    }
+    let status = meaning.status();
+    copy_in(&readings, buffer, 0, IR_READINGS);
+    copy_in(&status, buffer, IR_READINGS, 6);
+    Written::Done
 }

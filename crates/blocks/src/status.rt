@@ -1,7 +1,7 @@
 // The status words of the two blocks, from meaning to bits and back. The tables of their fields stand in specs/Status.antt.
 ghost use mathlib.Core.Path.{_≡_};
 ghost use Prim.Native.Nat.{_+_, _*_, _≤_};
-ghost use Rattle.blocks.specs.Status.{bit, lampShutterWord, lampShutterIn, sineWord, sineIn, irFlagWord, irFlagsIn, visFlagWord, visFlagsIn};
+ghost use Rattle.blocks.specs.Status.{bit, lampShutterWord, lampShutterIn, lampShutterRight, sineWord, sineIn, sineRight, irFlagWord, irFlagsIn, irFlagsRight, visFlagWord, visFlagsIn, visFlagsRight};
 
 // The lamp and shutter word of the IR block.
 pub struct LampShutter {
@@ -77,6 +77,14 @@ impl LampShutter {
             closed: w / 4096 % 2 == 1,
         }
     }
+
+    // Whether each fixed bit of the word is right: the word is that of what it says.
+    pub fn right(w: u16) -> bool
+        ensures { λ r. ⌜ r ≡ lampShutterRight w ⌝ }
+    {
+        let said = LampShutter::in_word(w);
+        said.word() == w
+    }
 }
 
 impl Sine {
@@ -93,6 +101,14 @@ impl Sine {
             magnitude: w % 4096,
             negative: w / 4096 % 2 == 1,
         }
+    }
+
+    // Whether each fixed bit of the word is right: the word is that of what it says.
+    pub fn right(w: u16) -> bool
+        ensures { λ r. ⌜ r ≡ sineRight w ⌝ }
+    {
+        let said = Sine::in_word(w);
+        said.word() == w
     }
 }
 
@@ -122,6 +138,14 @@ impl IrFlags {
             notopen: w / 16384 % 2 == 1,
         }
     }
+
+    // Whether each fixed bit of the word is right: the word is that of what it says.
+    pub fn right(w: u16) -> bool
+        ensures { λ r. ⌜ r ≡ irFlagsRight w ⌝ }
+    {
+        let said = IrFlags::in_word(w);
+        said.word() == w
+    }
 }
 
 impl VisFlags {
@@ -143,5 +167,13 @@ impl VisFlags {
             latchup: w / 16 % 2 == 1,
             lampon: w / 256 % 2 == 1,
         }
+    }
+
+    // Whether each fixed bit of the word is right: the word is that of what it says.
+    pub fn right(w: u16) -> bool
+        ensures { λ r. ⌜ r ≡ visFlagsRight w ⌝ }
+    {
+        let said = VisFlags::in_word(w);
+        said.word() == w
     }
 }

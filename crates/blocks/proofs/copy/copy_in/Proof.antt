@@ -16,22 +16,22 @@ use Rattle.blocks.proofs.copy.copy_in.Reads as reads
 use Rattle.blocks.proofs.copy.copy_in.Lts as lts
 
 -- a turn stores one word more
-turn : (d₀ s d : List ℕ) (at j : ℕ) → d ≡ paste d₀ at s j → at + length s ≤ length d₀ → j < length s
+turn : (d₀ s d : List ℕ) (at n j : ℕ) → d ≡ paste d₀ at s j → n ≤ length s → at + n ≤ length d₀ → j < n
     → set d (at + j) (getD s j 0) ≡ paste d₀ at s (j + 1)
-turn d₀ s d at j e room more = rw (e, add-one j) (paste-suc d₀ at s j 0 (omega arith) more)
+turn d₀ s d at n j e enough room more = rw (e, add-one j) (paste-suc d₀ at s j 0 (omega arith) (omega arith))
 
 kept : (d d₀ : List ℕ) (i v : ℕ) → length d ≡ length d₀ → length (set d i v) ≡ length d₀
 kept d d₀ i v e = length-set d i v ∙ e
 
--- after the last turn all of `src` is stored
-whole : (d₀ s d : List ℕ) (at j : ℕ) → d ≡ paste d₀ at s j → j ≤ length s → length s ≤ j → d ≡ paste d₀ at s (length s)
-whole d₀ s d at j e h h′ = rw (← le-antisymm h h′) e
+-- after the last turn all are stored
+whole : (d₀ s d : List ℕ) (at n j : ℕ) → d ≡ paste d₀ at s j → j ≤ n → n ≤ j → d ≡ paste d₀ at s n
+whole d₀ s d at n j e h h′ = rw (← le-antisymm h h′) e
 
 abbrev Inv-loop : tie.InvT-loop
-Inv-loop src dst₀ at j₀ dst j = (dst ≡ paste dst₀ at src j) × (j ≤ length src) × (length dst ≡ length dst₀)
+Inv-loop src dst₀ at count j₀ dst j = (dst ≡ paste dst₀ at src j) × (j ≤ count) × (length dst ≡ length dst₀)
 
 abbrev μ-loop : tie.MeasureT-loop
-μ-loop src dst₀ at j₀ dst j = length src - j
+μ-loop src dst₀ at count j₀ dst j = count - j
 
 loop-holds : tie.Need-loop-holds Inv-loop μ-loop
 loop-holds c = search (needs, paste-zero)

@@ -1,0 +1,69 @@
+-- `blocks::ir::read_ir` meets its contract.
+-- Assumes nothing.
+use mathlib.Core.Path.{refl}
+use Rattle.blocks.specs.Ir.{irAnswerOf}
+use Rattle.blocks.proofs.IrLaws.{read-refused, read-block}
+use Rattle.blocks.proofs.Judged.{unequal, equal}
+use borrow.Author.Needs.{needs}
+use Rattle.blocks.proofs.ir.read_ir.Statement.{statement}
+use Rattle.blocks.proofs.ir.read_ir.Tie as tie
+
+returns : tie.Need-returns
+unfolding irAnswerOf
+returns c = read-refused _ _ (search (needs, unequal)) _ refl
+
+shared-slice-read-judge : tie.Need-shared-slice-read-judge
+shared-slice-read-judge c = search needs
+
+shared-slice-read-judge-2 : tie.Need-shared-slice-read-judge-2
+shared-slice-read-judge-2 c = search needs
+
+shared-slice-read-judge-3 : tie.Need-shared-slice-read-judge-3
+shared-slice-read-judge-3 c = search needs
+
+shared-slice-read-judge-4 : tie.Need-shared-slice-read-judge-4
+shared-slice-read-judge-4 c = search needs
+
+shared-slice-read-judge-5 : tie.Need-shared-slice-read-judge-5
+shared-slice-read-judge-5 c = search needs
+
+shared-slice-read-judge-6 : tie.Need-shared-slice-read-judge-6
+shared-slice-read-judge-6 c = search needs
+
+judge-requires : tie.Need-judge-requires
+judge-requires c κs = search needs
+
+enum-told : tie.Need-enum-told
+enum-told c = search needs
+
+enum-told-2 : tie.Need-enum-told-2
+enum-told-2 c = search needs
+
+returns-2 : tie.Need-returns-2
+unfolding irAnswerOf
+returns-2 c = search (needs, read-refused, equal)
+
+readings-of-requires : tie.Need-readings-of-requires
+readings-of-requires c κs = search needs
+
+returns-3 : tie.Need-returns-3
+unfolding irAnswerOf
+returns-3 c = search (needs, read-block, equal)
+
+pub read-ir-spec : {M : Type 1} → statement M
+read-ir-spec =
+    tie.close
+    (tie.spec
+    returns
+    shared-slice-read-judge
+    shared-slice-read-judge-2
+    shared-slice-read-judge-3
+    shared-slice-read-judge-4
+    shared-slice-read-judge-5
+    shared-slice-read-judge-6
+    judge-requires
+    enum-told
+    enum-told-2
+    returns-2
+    readings-of-requires
+    returns-3)

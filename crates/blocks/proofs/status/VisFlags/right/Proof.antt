@@ -1,0 +1,19 @@
+-- `blocks::status::VisFlags::right` meets its contract.
+-- Assumes nothing.
+use Rattle.blocks.specs.Status.{visFlagsRight}
+use borrow.Author.Needs.{needs}
+use Rattle.blocks.proofs.status.VisFlags.right.Statement.{statement}
+use Rattle.blocks.proofs.status.VisFlags.right.Tie as tie
+
+in-word-requires : tie.Need-in-word-requires
+in-word-requires c κs = search needs
+
+word-requires : tie.Need-word-requires
+word-requires c κs = search needs
+
+returns : tie.Need-returns
+unfolding visFlagsRight
+returns c = cc
+
+pub right-spec : {M : Type 1} → statement M
+right-spec = tie.close (tie.spec in-word-requires word-requires returns)
