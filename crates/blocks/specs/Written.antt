@@ -8,8 +8,8 @@ use lib.ListN.{length}
 use Rattle.head.specs.Range.{inRange}
 use Rattle.head.specs.declared.state.Head.{Head}
 use Rattle.blocks.specs.declared.refusal.Refusal.the-variants.{Length, State}
-use Rattle.blocks.specs.declared.refusal.Written.{Written}
-use Rattle.blocks.specs.declared.refusal.Written.the-variants.{Done, Refused}
+use Rattle.blocks.specs.declared.written.Written.{Written}
+use Rattle.blocks.specs.declared.written.Written.the-variants.{Done, Refused}
 
 -- 11 a buffer that has not the block's n words, then 21 a state out of range.
 unfoldable pub writtenIf : ℕ → Bool → List ℕ → Written

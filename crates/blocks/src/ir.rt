@@ -1,9 +1,10 @@
 // The IR block: 14 readings and six status words.
 use crate::copy::copy_in;
 use crate::refusal::Refusal;
-use crate::refusal::Written;
 use crate::status::IrFlags;
 use crate::status::LampShutter;
+use crate::written::Written;
+use crate::written::write_block;
 use head::state::Flags;
 use head::state::Head;
 use words::allows;
@@ -12,11 +13,10 @@ use words::kinds::IR_EXPO;
 ghost use Prim.Native.Nat.{_≤_};
 ghost use mathlib.Core.Path.{_≡_};
 ghost use mathlib.Core.Bool.{cond};
-ghost use mathlib.Core.List.{_++_};
 ghost use lib.Dec.{eqb};
 ghost use lib.ListN.{length, take};
 ghost use Rattle.blocks.specs.Written.{writtenIf, bufferAfter};
-ghost use Rattle.blocks.specs.Ir.{irWords, irReadings, linesRight, irShown, irSaid, irStatus, irJudged, irReadOf};
+ghost use Rattle.blocks.specs.Ir.{irWords, irReadings, linesRight, irShown, irSaid, irStatus, irBlockOf, irJudged, irReadOf};
 
 pub const IR_WORDS: usize = 20;
 
@@ -186,24 +186,19 @@ pub fn read_ir(words: &[u16]) -> IrRead
     IrRead { readings, answer }
 }
 
-// Writes the block of a state; in_range says whether the state is in range.
-fn write_judged(
+// Writes the block of a state that is in range as in_range says.
+pub fn write_ir(
     in_range: bool,
-    meaning: IrMeaning,
+    head: Head,
+    flags: Flags,
+    acquired: bool,
     readings: [u16; 14],
+    bits: IrBits,
     buffer: &mut [u16],
 ) -> Written
     ensures { λ r. ⌜ r ≡ writtenIf irWords in_range (now (buffer .entry)) ⌝ }
-    ensures { λ r. ⌜ now (buffer .exit) ≡ bufferAfter r (readings ++ irStatus meaning) (now (buffer .entry)) ⌝ }
+    ensures { λ r. ⌜ now (buffer .exit) ≡ bufferAfter r (irBlockOf head flags acquired readings bits) (now (buffer .entry)) ⌝ }
 {
-    if buffer.len() != IR_WORDS {
-        return Written::Refused(Refusal::Length);
-    }
-    if !in_range {
-        return Written::Refused(Refusal::State);
-    }
-    let status = meaning.status();
-    copy_in(&readings, buffer, 0, IR_READINGS);
-    copy_in(&status, buffer, IR_READINGS, 6);
-    Written::Done
+    let status = IrMeaning::shown(head, flags, acquired, bits).status();
+    write_block(in_range, &readings, &status, buffer)
 }

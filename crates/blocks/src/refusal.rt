@@ -9,9 +9,3 @@ pub enum Refusal {
     // The value of this word is out of range.
     OutOfRange { place: usize },
 }
-
-// A writer's answer.
-pub enum Written {
-    Done,
-    Refused(Refusal),
-}

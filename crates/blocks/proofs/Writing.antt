@@ -1,0 +1,13 @@
+-- A writer's answer, by the lengths of the block's two parts.
+-- Assumes nothing.
+use mathlib.Core.Path.{_≡_}
+use mathlib.Core.Bool.{Bool}
+use mathlib.Core.List.{List}
+use Prim.Native.Nat.{ℕ, _+_}
+use lib.ListN.{length}
+use Rattle.blocks.specs.Written.{writtenIf}
+use Rattle.blocks.specs.declared.written.Written.{Written}
+
+pub written-by : (l m l′ m′ : ℕ) (buffer : List ℕ) (fine : Bool) (r : Written) → r ≡ writtenIf (l′ + m′) fine buffer
+    → l′ ≡ l → m′ ≡ m → r ≡ writtenIf (l + m) fine buffer
+written-by l m l′ m′ buffer fine r is e e′ = rw (e, e′) at is

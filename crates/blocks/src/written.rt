@@ -1,0 +1,36 @@
+// A block is stored in a lent buffer: its readings, and then its status words.
+use crate::copy::copy_in;
+use crate::refusal::Refusal;
+ghost use Prim.Native.Nat.{_+_};
+ghost use mathlib.Core.Path.{_≡_};
+ghost use mathlib.Core.List.{_++_};
+ghost use lib.ListN.{length};
+ghost use Rattle.blocks.specs.Written.{writtenIf, bufferAfter};
+
+pub enum Written {
+    Done,
+    Refused(Refusal),
+}
+
+// The buffer must have the block's length, and in_range says whether the state is in range.
+pub(crate) fn write_block(
+    in_range: bool,
+    readings: &[u16],
+    status: &[u16],
+    buffer: &mut [u16],
+) -> Written
+    ensures { λ r. ⌜ r ≡ writtenIf (length (now (readings .entry)) + length (now (status .entry))) in_range (now (buffer .entry)) ⌝ }
+    ensures { λ r. ⌜ now (buffer .exit) ≡ bufferAfter r (now (readings .entry) ++ now (status .entry)) (now (buffer .entry)) ⌝ }
+{
+    let first = readings.len();
+    let second = status.len();
+    if buffer.len() != first + second {
+        return Written::Refused(Refusal::Length);
+    }
+    if !in_range {
+        return Written::Refused(Refusal::State);
+    }
+    copy_in(readings, buffer, 0, first);
+    copy_in(status, buffer, first, second);
+    Written::Done
+}
