@@ -2,6 +2,7 @@
 -- Assumes nothing.
 use mathlib.Core.Path.{_≡_, refl}
 use mathlib.Core.Bool.{Bool, true, false, cond, not}
+use mathlib.Core.List.{List}
 use Prim.Native.Nat.{ℕ}
 use borrow.Author.Tests.{eq-eqb, ne-eqb}
 use lib.Dec.{eqb}
@@ -18,3 +19,8 @@ unequal m n r a e = simp (ne-eqb m n e)
 
 pub equal : {A : Type 0} (m n : ℕ) (x r a : A) → m ≡ n → x ≡ a → x ≡ cond (not (eqb m n)) r a
 equal m n x r a e g = simp (eq-eqb m n e) g
+
+-- what is read: the answer, and the readings that go with it
+pub read-as : {A R : Type 0} (made : List ℕ → A → R) (readings : A → List ℕ → List ℕ) (ws rs : List ℕ) (a b x : A) → a ≡ b
+    → a ≡ x → rs ≡ readings x ws → made rs a ≡ made (readings b ws) b
+read-as made readings ws rs a b x is told e = rw (e, ← told, is)

@@ -1,5 +1,4 @@
 pub mod Fields
 pub mod Judged
-pub mod IrLaws
 pub mod Copied
 pub mod Writing

@@ -103,7 +103,7 @@ irJudged y1 y2 delay expo lampshutter flags =
     (cond (not (lampShutterRight lampshutter)) (Refused (FixedBit 18))
     (cond (not (irFlagsRight flags)) (Refused (FixedBit 19)) (Block (irSaid y1 delay expo lampshutter flags))))))
 
--- 11 first.
+-- 11 before all.
 unfoldable pub irAnswerOf : List ℕ → IrAnswer
 irAnswerOf ws =
     let w : ℕ → ℕ = λ k. getD ws k 0 in
@@ -114,5 +114,8 @@ unfoldable pub irReadingsOf : IrAnswer → List ℕ → List ℕ
 irReadingsOf (Block m) ws = take irReadings ws
 irReadingsOf (Refused r) ws = replicate irReadings 0
 
+abbrev pub irRead : List ℕ → IrAnswer → IrRead
+irRead readings answer = record { readings = readings; answer = answer }
+
 unfoldable pub irReadOf : List ℕ → IrRead
-irReadOf ws = let a = irAnswerOf ws in record { readings = irReadingsOf a ws; answer = a }
+irReadOf ws = irRead (irReadingsOf (irAnswerOf ws) ws) (irAnswerOf ws)

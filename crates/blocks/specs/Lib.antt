@@ -2,3 +2,4 @@ pub mod Status
 pub mod Numbers
 pub mod Written
 pub mod Ir
+pub mod Ccd

@@ -15,7 +15,7 @@ ghost use mathlib.Core.Path.{_≡_};
 ghost use mathlib.Core.Bool.{cond};
 ghost use lib.Dec.{eqb};
 ghost use lib.ListN.{length, take};
-ghost use Rattle.blocks.specs.Written.{writtenIf, bufferAfter};
+ghost use Rattle.blocks.specs.Written.{writtenOf, bufferAfter};
 ghost use Rattle.blocks.specs.Ir.{irWords, irReadings, linesRight, irShown, irSaid, irStatus, irBlockOf, irJudged, irReadOf};
 
 pub const IR_WORDS: usize = 20;
@@ -88,19 +88,6 @@ impl IrMeaning {
         }
     }
 
-    // What right status words say.
-    fn said(y1: u16, delay: u16, expo: u16, lampshutter: u16, flags: u16) -> IrMeaning
-        ensures { λ r. ⌜ r ≡ irSaid y1 delay expo lampshutter flags ⌝ }
-    {
-        IrMeaning {
-            mode: choose(y1, 0, 1),
-            delay,
-            expo,
-            lampshutter: LampShutter::in_word(lampshutter),
-            flags: IrFlags::in_word(flags),
-        }
-    }
-
     // The status words.
     pub fn status(self) -> [u16; 6]
         ensures { λ r. ⌜ r ≡ irStatus self ⌝ }
@@ -126,6 +113,19 @@ fn lines_right(y1: u16, y2: u16) -> bool
     ((y1 == 0) & (y2 == 269)) | ((y1 == 90) & (y2 == 179))
 }
 
+// What right status words say.
+fn said(y1: u16, delay: u16, expo: u16, lampshutter: u16, flags: u16) -> IrAnswer
+    ensures { λ r. ⌜ r ≡ IrAnswer.Block (irSaid y1 delay expo lampshutter flags) ⌝ }
+{
+    IrAnswer::Block(IrMeaning {
+        mode: choose(y1, 0, 1),
+        delay,
+        expo,
+        lampshutter: LampShutter::in_word(lampshutter),
+        flags: IrFlags::in_word(flags),
+    })
+}
+
 // Judges the status words one by one; the first faulty word decides.
 fn judge(y1: u16, y2: u16, delay: u16, expo: u16, lampshutter: u16, flags: u16) -> IrAnswer
     ensures { λ r. ⌜ r ≡ irJudged y1 y2 delay expo lampshutter flags ⌝ }
@@ -145,7 +145,7 @@ fn judge(y1: u16, y2: u16, delay: u16, expo: u16, lampshutter: u16, flags: u16) 
     if !IrFlags::right(flags) {
         return IrAnswer::Refused(Refusal::FixedBit { place: 19 });
     }
-    IrAnswer::Block(IrMeaning::said(y1, delay, expo, lampshutter, flags))
+    said(y1, delay, expo, lampshutter, flags)
 }
 
 fn readings_of(words: &[u16]) -> [u16; 14]
@@ -186,9 +186,8 @@ pub fn read_ir(words: &[u16]) -> IrRead
     IrRead { readings, answer }
 }
 
-// Writes the block of a state that is in range as in_range says.
+// Writes the block of a state, with the five flags to show, whether an acquisition ended, and the caller's readings and bits.
 pub fn write_ir(
-    in_range: bool,
     head: Head,
     flags: Flags,
     acquired: bool,
@@ -196,9 +195,9 @@ pub fn write_ir(
     bits: IrBits,
     buffer: &mut [u16],
 ) -> Written
-    ensures { λ r. ⌜ r ≡ writtenIf irWords in_range (now (buffer .entry)) ⌝ }
+    ensures { λ r. ⌜ r ≡ writtenOf irWords head (now (buffer .entry)) ⌝ }
     ensures { λ r. ⌜ now (buffer .exit) ≡ bufferAfter r (irBlockOf head flags acquired readings bits) (now (buffer .entry)) ⌝ }
 {
     let status = IrMeaning::shown(head, flags, acquired, bits).status();
-    write_block(in_range, &readings, &status, buffer)
+    write_block(head.in_range(), &readings, &status, buffer)
 }

@@ -2,7 +2,6 @@
 -- Assumes nothing.
 use Rattle.blocks.specs.Ir.{irJudged}
 use Rattle.blocks.proofs.Judged.{stops, passes}
-use Rattle.blocks.proofs.IrLaws.{same-block}
 use borrow.Author.Needs.{needs}
 use Rattle.blocks.proofs.ir.judge.Statement.{statement}
 use Rattle.blocks.proofs.ir.judge.Tie as tie
@@ -47,7 +46,7 @@ said-requires c κs = search needs
 
 returns-6 : tie.Need-returns-6
 unfolding irJudged
-returns-6 c = search (needs, passes, same-block)
+returns-6 c = search (needs, passes)
 
 pub judge-spec : {M : Type 1} → statement M
 judge-spec =

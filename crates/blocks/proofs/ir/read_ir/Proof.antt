@@ -1,16 +1,15 @@
 -- `blocks::ir::read_ir` meets its contract.
 -- Assumes nothing.
 use mathlib.Core.Path.{refl}
-use Rattle.blocks.specs.Ir.{irAnswerOf}
-use Rattle.blocks.proofs.IrLaws.{read-refused, read-block}
-use Rattle.blocks.proofs.Judged.{unequal, equal}
+use Rattle.blocks.specs.Ir.{irRead, irReadOf, irAnswerOf, irReadingsOf}
+use Rattle.blocks.proofs.Judged.{unequal, equal, read-as}
 use borrow.Author.Needs.{needs}
 use Rattle.blocks.proofs.ir.read_ir.Statement.{statement}
 use Rattle.blocks.proofs.ir.read_ir.Tie as tie
 
 returns : tie.Need-returns
-unfolding irAnswerOf
-returns c = read-refused _ _ (search (needs, unequal)) _ refl
+unfolding irReadOf irAnswerOf irReadingsOf
+returns c = read-as irRead irReadingsOf _ _ _ _ _ (search (needs, unequal)) refl refl
 
 shared-slice-read-judge : tie.Need-shared-slice-read-judge
 shared-slice-read-judge c = search needs
@@ -40,15 +39,15 @@ enum-told-2 : tie.Need-enum-told-2
 enum-told-2 c = search needs
 
 returns-2 : tie.Need-returns-2
-unfolding irAnswerOf
-returns-2 c = search (needs, read-refused, equal)
+unfolding irReadOf irAnswerOf irReadingsOf
+returns-2 c = read-as irRead irReadingsOf _ _ _ _ _ (search (needs, equal)) (c .enum-told2 .given .1) refl
 
 readings-of-requires : tie.Need-readings-of-requires
 readings-of-requires c κs = search needs
 
 returns-3 : tie.Need-returns-3
-unfolding irAnswerOf
-returns-3 c = search (needs, read-block, equal)
+unfolding irReadOf irAnswerOf irReadingsOf
+returns-3 c = read-as irRead irReadingsOf _ _ _ _ _ (search (needs, equal)) (c .before .enum-told .given .1) (c .readings-of .ensures)
 
 pub read-ir-spec : {M : Type 1} → statement M
 read-ir-spec =

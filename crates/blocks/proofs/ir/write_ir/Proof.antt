@@ -1,5 +1,6 @@
 -- `blocks::ir::write_ir` meets its contract.
 -- Assumes nothing.
+use Rattle.blocks.specs.Written.{writtenOf}
 use Rattle.blocks.specs.Ir.{irBlockOf}
 use Rattle.blocks.proofs.Writing.{written-by}
 use borrow.Author.Needs.{needs}
@@ -11,6 +12,9 @@ shown-requires c κs = search needs
 
 status-requires : tie.Need-status-requires
 status-requires c κs = search needs
+
+in-range-requires : tie.Need-in-range-requires
+in-range-requires c κs = search needs
 
 slice-aggregate-write-block : tie.Need-slice-aggregate-write-block
 slice-aggregate-write-block c = search needs
@@ -25,8 +29,8 @@ same-length : tie.Need-same-length
 same-length c = search needs
 
 returns : tie.Need-returns
-unfolding irBlockOf
-returns c = (written-by 14 6 _ _ _ _ _ (c .before .before .write-block .ensures .0) (search needs) (search needs), cc)
+unfolding irBlockOf writtenOf
+returns c = (written-by 14 6 _ _ _ _ _ _ (c .before .before .write-block .ensures .0) (search needs) (search needs) (search needs), cc)
 
 pub write-ir-spec : {M : Type 1} → statement M
 write-ir-spec =
@@ -34,6 +38,7 @@ write-ir-spec =
     (tie.spec
     shown-requires
     status-requires
+    in-range-requires
     slice-aggregate-write-block
     slice-aggregate-write-block-2
     write-block-requires

@@ -1,9 +1,9 @@
--- `blocks::ir::IrMeaning::said` meets its contract.
+-- `blocks::ir::said` meets its contract.
 -- Assumes nothing.
-use borrow.Author.Needs.{needs}
 use Rattle.blocks.specs.Ir.{irSaid}
-use Rattle.blocks.proofs.ir.IrMeaning.said.Statement.{statement}
-use Rattle.blocks.proofs.ir.IrMeaning.said.Tie as tie
+use borrow.Author.Needs.{needs}
+use Rattle.blocks.proofs.ir.said.Statement.{statement}
+use Rattle.blocks.proofs.ir.said.Tie as tie
 
 choose-requires : tie.Need-choose-requires
 choose-requires c κs = search needs

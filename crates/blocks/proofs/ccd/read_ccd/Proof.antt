@@ -1,0 +1,80 @@
+-- `blocks::ccd::read_ccd` meets its contract.
+-- Assumes nothing.
+use mathlib.Core.Path.{refl}
+use Rattle.blocks.specs.Ccd.{ccdRead, ccdReadOf, ccdAnswerOf, ccdReadingsOf}
+use Rattle.blocks.proofs.Judged.{unequal, equal, read-as}
+use borrow.Author.Needs.{needs}
+use Rattle.blocks.proofs.ccd.read_ccd.Statement.{statement}
+use Rattle.blocks.proofs.ccd.read_ccd.Tie as tie
+
+returns : tie.Need-returns
+unfolding ccdReadOf ccdAnswerOf ccdReadingsOf
+returns c = read-as ccdRead ccdReadingsOf _ _ _ _ _ (search (needs, unequal)) refl refl
+
+shared-slice-read-judge : tie.Need-shared-slice-read-judge
+shared-slice-read-judge c = search needs
+
+shared-slice-read-judge-2 : tie.Need-shared-slice-read-judge-2
+shared-slice-read-judge-2 c = search needs
+
+shared-slice-read-judge-3 : tie.Need-shared-slice-read-judge-3
+shared-slice-read-judge-3 c = search needs
+
+shared-slice-read-judge-4 : tie.Need-shared-slice-read-judge-4
+shared-slice-read-judge-4 c = search needs
+
+shared-slice-read-judge-5 : tie.Need-shared-slice-read-judge-5
+shared-slice-read-judge-5 c = search needs
+
+shared-slice-read-judge-6 : tie.Need-shared-slice-read-judge-6
+shared-slice-read-judge-6 c = search needs
+
+shared-slice-read-judge-7 : tie.Need-shared-slice-read-judge-7
+shared-slice-read-judge-7 c = search needs
+
+shared-slice-read-judge-8 : tie.Need-shared-slice-read-judge-8
+shared-slice-read-judge-8 c = search needs
+
+shared-slice-read-judge-9 : tie.Need-shared-slice-read-judge-9
+shared-slice-read-judge-9 c = search needs
+
+judge-requires : tie.Need-judge-requires
+judge-requires c κs = search needs
+
+enum-told : tie.Need-enum-told
+enum-told c = search needs
+
+enum-told-2 : tie.Need-enum-told-2
+enum-told-2 c = search needs
+
+returns-2 : tie.Need-returns-2
+unfolding ccdReadOf ccdAnswerOf ccdReadingsOf
+returns-2 c = read-as ccdRead ccdReadingsOf _ _ _ _ _ (search (needs, equal)) (c .enum-told2 .given .1) refl
+
+readings-of-requires : tie.Need-readings-of-requires
+readings-of-requires c κs = search needs
+
+returns-3 : tie.Need-returns-3
+unfolding ccdReadOf ccdAnswerOf ccdReadingsOf
+returns-3 c = read-as ccdRead ccdReadingsOf _ _ _ _ _ (search (needs, equal)) (c .before .enum-told .given .1) (c .readings-of .ensures)
+
+pub read-ccd-spec : {M : Type 1} → statement M
+read-ccd-spec =
+    tie.close
+    (tie.spec
+    returns
+    shared-slice-read-judge
+    shared-slice-read-judge-2
+    shared-slice-read-judge-3
+    shared-slice-read-judge-4
+    shared-slice-read-judge-5
+    shared-slice-read-judge-6
+    shared-slice-read-judge-7
+    shared-slice-read-judge-8
+    shared-slice-read-judge-9
+    judge-requires
+    enum-told
+    enum-told-2
+    returns-2
+    readings-of-requires
+    returns-3)
