@@ -1,5 +1,6 @@
 -- `blocks::ccd::write_ccd` meets its contract.
 -- Assumes nothing.
+use mathlib.Core.Path.{sym}
 use Rattle.blocks.specs.Written.{writtenOf}
 use Rattle.blocks.specs.Ccd.{ccdBlockOf}
 use Rattle.blocks.proofs.Writing.{written-by}
@@ -30,7 +31,10 @@ same-length c = search needs
 
 returns : tie.Need-returns
 unfolding ccdBlockOf writtenOf
-returns c = (written-by 16 9 _ _ _ _ _ _ (c .before .before .write-block .ensures .0) (search needs) (search needs) (search needs), cc)
+returns c =
+    let at-write-block = c .before .before in
+    let at-readings = at-write-block .before .before .before in
+    (written-by 16 9 _ _ _ _ _ _ (at-write-block .write-block .ensures .0) (sym (slice-aggregate-write-block at-readings)) (search needs) (search needs), cc)
 
 pub write-ccd-spec : {M : Type 1} → statement M
 write-ccd-spec =
