@@ -3,3 +3,4 @@ pub mod Numbers
 pub mod Written
 pub mod Ir
 pub mod Ccd
+pub mod Due

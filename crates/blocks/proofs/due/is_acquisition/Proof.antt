@@ -1,0 +1,31 @@
+-- `blocks::due::is_acquisition` meets its contract.
+-- Assumes nothing.
+use Rattle.blocks.specs.Due.{acquisition}
+use borrow.Author.Needs.{needs}
+use Rattle.blocks.proofs.due.is_acquisition.Statement.{statement}
+use Rattle.blocks.proofs.due.is_acquisition.Tie as tie
+
+enum-told : tie.Need-enum-told
+enum-told c = search needs
+
+enum-told-2 : tie.Need-enum-told-2
+enum-told-2 c = search needs
+
+enum-told-3 : tie.Need-enum-told-3
+enum-told-3 c = search needs
+
+returns : tie.Need-returns
+unfolding acquisition
+returns c = rw (c .enum-told .given .1)
+
+returns-2 : tie.Need-returns-2
+unfolding acquisition
+returns-2 c = rw (c .enum-told2 .given .1)
+
+returns-3 : tie.Need-returns-3
+unfolding acquisition
+returns-3 c = rw (c .enum-told3 .given .1)
+
+pub is-acquisition-spec : {M : Type 1} → statement M
+is-acquisition-spec =
+    tie.close (tie.spec enum-told enum-told-2 enum-told-3 returns returns-2 returns-3)

@@ -1,0 +1,86 @@
+// From a tick that ends a task to the two blocks.
+use crate::ccd::CCD_WORDS;
+use crate::ccd::CcdBits;
+use crate::ccd::write_ccd;
+use crate::ir::IrBits;
+use crate::ir::write_ir;
+use crate::refusal::Refusal;
+use crate::written::Written;
+use head::state::Flags;
+use head::state::Head;
+use head::state::Task;
+use head::tick::Due;
+use head::tick::Ticked;
+ghost use mathlib.Core.Path.{_≡_};
+ghost use Rattle.blocks.specs.Written.{bufferAfter};
+ghost use Rattle.blocks.specs.Ir.{irBlockOf};
+ghost use Rattle.blocks.specs.Ccd.{ccdBlockOf};
+ghost use Rattle.blocks.specs.Due.{acquisition, bothWrittenOf, dueWrittenOf, irDueAfter, ccdDueAfter};
+
+// What the caller gives for both blocks.
+pub struct Given {
+    pub irreadings: [u16; 14],
+    pub irbits: IrBits,
+    pub ccdreadings: [u16; 16],
+    pub ccdbits: CcdBits,
+}
+
+pub enum DueWritten {
+    NotDue,
+    Blocks(Written),
+}
+
+fn is_acquisition(ended: Task) -> bool
+    ensures { λ r. ⌜ r ≡ acquisition ended ⌝ }
+{
+    match ended {
+        Task::Idle => false,
+        Task::Acquisition => true,
+        Task::Housekeeping => false,
+    }
+}
+
+// Writes both blocks, or neither.
+pub fn write_both(
+    head: Head,
+    flags: Flags,
+    acquired: bool,
+    given: Given,
+    ir: &mut [u16],
+    ccd: &mut [u16],
+) -> Written
+    ensures { λ r. ⌜ r ≡ bothWrittenOf head (now (ir .entry)) (now (ccd .entry)) ⌝ }
+    ensures { λ r. ⌜ now (ir .exit) ≡ bufferAfter r (irBlockOf head flags acquired (given .irreadings) (given .irbits)) (now (ir .entry)) ⌝ }
+    ensures { λ r. ⌜ now (ccd .exit) ≡ bufferAfter r (ccdBlockOf head flags acquired (given .ccdreadings) (given .ccdbits)) (now (ccd .entry)) ⌝ }
+{
+    if ccd.len() != CCD_WORDS {
+        return Written::Refused(Refusal::Length);
+    }
+    let irreadings = given.irreadings;
+    let irbits = given.irbits;
+    let written = write_ir(head, flags, acquired, irreadings, irbits, ir);
+    let Written::Done = written else {
+        return written;
+    };
+    let ccdreadings = given.ccdreadings;
+    let ccdbits = given.ccdbits;
+    write_ccd(head, flags, acquired, ccdreadings, ccdbits, ccd)
+}
+
+// Writes both blocks where they are due, with the caller's readings and bits; else neither buffer is touched.
+pub fn write_due(ticked: Ticked, given: Given, ir: &mut [u16], ccd: &mut [u16]) -> DueWritten
+    ensures { λ r. ⌜ r ≡ dueWrittenOf (ticked .head) (ticked .due) (now (ir .entry)) (now (ccd .entry)) ⌝ }
+    ensures { λ _. ⌜ now (ir .exit) ≡ irDueAfter (ticked .head) (ticked .due) (given .irreadings) (given .irbits) (now (ir .entry)) (now (ccd .entry)) ⌝ }
+    ensures { λ _. ⌜ now (ccd .exit) ≡ ccdDueAfter (ticked .head) (ticked .due) (given .ccdreadings) (given .ccdbits) (now (ir .entry)) (now (ccd .entry)) ⌝ }
+{
+    let head = ticked.head;
+    let due = ticked.due;
+    match due {
+        Due::Nothing => DueWritten::NotDue,
+        Due::Blocks { ended, flags } => {
+            let acquired = is_acquisition(ended);
+            DueWritten::Blocks(write_both(head, flags, acquired, given, ir, ccd))
+        }
+        Due::Refused => DueWritten::NotDue,
+    }
+}
