@@ -9,7 +9,7 @@ use native.Mathlib.Nat.{mod-eq-of-lt, mod-lt, mod-mod, add-mul, add-mul-mod-self
 use native.Mathlib.Omega.{arith}
 use lib.Arith.{digits-div, digits-lt}
 use borrow.Author.Tests.{leb-true}
-use lib.Dec.{leb}
+use lib.Dec.{leb, lit<}
 use lib.ListN.{length}
 use lib.Pow.{pow-pos, pow-mono, pow-add}
 use Rattle.words.proofs.Tests.{and-left, and-right}
@@ -108,3 +108,12 @@ lamp-shutter-back l lamp shutter =
 pub sine-back : (s : Sine) → s .magnitude < 4096 → sineIn (sineWord s) ≡ s
 unfolding sineIn sineWord sineFields rising held
 sine-back s magnitude = rw (held-by sineFields _ refl refl) (simp (bit-fits, bit-set, mod-eq-of-lt magnitude))
+
+-- what a field holds fits it
+pub lamp-shutter-fits : (w : ℕ) → (lampShutterIn w .lampcurrent < 16) × (lampShutterIn w .shuttercurrent < 16)
+unfolding lampShutterIn lampShutterFields valuesIn
+lamp-shutter-fits w = (mod-lt (w / 1) {m = 16} (lit< tt), mod-lt (w / 256) {m = 16} (lit< tt))
+
+pub sine-fits : (w : ℕ) → sineIn w .magnitude < 4096
+unfolding sineIn sineFields valuesIn
+sine-fits w = mod-lt (w / 1) {m = 4096} (lit< tt)

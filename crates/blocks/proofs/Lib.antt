@@ -2,3 +2,6 @@ pub mod Fields
 pub mod Judged
 pub mod Copied
 pub mod Writing
+pub mod Parts
+pub mod IrRound
+pub mod CcdRound

@@ -4,3 +4,4 @@ pub mod Written
 pub mod Ir
 pub mod Ccd
 pub mod Due
+pub mod Said

@@ -1,0 +1,189 @@
+-- The CCD block from meaning to words and back.
+-- Assumes nothing.
+use mathlib.Core.Path.{_≡_, refl, sym, ap, _∙_}
+use mathlib.Core.Bool.{Bool, true, false}
+use mathlib.Core.List.{List, _++_}
+use Prim.Native.Nat.{ℕ, _+_, _<_, _≤_}
+use native.Mathlib.Omega.{arith}
+use borrow.Author.Tests.{eq-eqb, eqb-true, le-leb, leb-true}
+use lib.Dec.{eqb, leb}
+use lib.ListN.{length, getD, take, length-append}
+use lib.Seq.{take-at}
+use Rattle.words.specs.Kinds as kind
+use Rattle.words.specs.Kinds.{rows, least, greatest, allowed}
+use Rattle.head.specs.Range.{inRange}
+use Rattle.head.specs.declared.state.Head.{Head}
+use Rattle.head.specs.declared.state.Flags.{Flags}
+use Rattle.head.proofs.Bounds.{bounds, allowed-least, allowed-most}
+use Rattle.blocks.specs.Status.{sineWord, sineIn, sineRight, visFlagWord, visFlagsIn, visFlagsRight}
+use Rattle.blocks.specs.Ccd.{ccdShown, ccdStatus, ccdBlockOf, cosineRight, ccdSaid, ccdRestJudged, ccdJudged, ccdAnswerOf, ccdReadingsOf, ccdRead, ccdReadOf}
+use Rattle.blocks.specs.declared.refusal.Refusal.{Refusal}
+use Rattle.blocks.specs.declared.ccd.CcdBits.{CcdBits}
+use Rattle.blocks.specs.declared.ccd.Window.{Window}
+use Rattle.blocks.specs.declared.ccd.CcdMeaning.{CcdMeaning}
+use Rattle.blocks.specs.declared.ccd.CcdRead.{CcdRead}
+use Rattle.blocks.specs.declared.ccd.CcdAnswer.the-variants.{Block, Refused}
+use Rattle.blocks.proofs.Fields.{sine-back, sine-fits, vis-flags-back}
+use Rattle.blocks.proofs.Parts.{word-at, words, put-together, passed, within-allowed}
+
+-- what a CCD block can say
+pub record CcdFits (m : CcdMeaning) : Type 0 where
+  pub x1 : m .window .x1 ≤ 1023
+  pub y1 : m .window .y1 ≤ 511
+  pub x2 : m .window .x2 ≤ 1023
+  pub y2 : m .window .y2 ≤ 511
+  pub leastDelay : 5 ≤ m .delay
+  pub delay : m .delay ≤ 1023
+  pub expo : m .expo ≤ 1023
+  pub magnitude : m .sine .magnitude < 4096
+  pub cosine : m .cosine ≤ 4095
+
+pub ccd-shown-fits : (s : Head) (f : Flags) (a : Bool) (b : CcdBits) → inRange s ≡ true → CcdFits (ccdShown s f a b)
+unfolding ccdShown
+ccd-shown-fits s f a b h =
+    let r = bounds s h .settings in
+    record {
+      x1 = r .x1;
+      y1 = r .y1;
+      x2 = r .x2;
+      y2 = r .y2;
+      leastDelay = r .leastCcddelay;
+      delay = r .ccddelay;
+      expo = r .ccdexpo;
+      magnitude = sine-fits (s .settings .sine);
+      cosine = r .cosine;
+    }
+
+-- what was written is read
+module _ (m : CcdMeaning) (fits : CcdFits m) where
+  judged-back : ccdJudged (m .window) (m .delay) (m .expo) (sineWord (m .sine)) (m .cosine) (visFlagWord (m .flags)) ≡ Block m
+  unfolding ccdJudged ccdRestJudged ccdSaid sineRight cosineRight visFlagsRight least greatest rows
+  judged-back =
+      let sine = sineWord (m .sine) in
+      let flags = visFlagWord (m .flags) in
+      rw (
+        within-allowed kind.winX1 (m .window .x1) refl (omega arith) (fits .x1),
+        within-allowed kind.winY1 (m .window .y1) refl (omega arith) (fits .y1),
+        within-allowed kind.winX2 (m .window .x2) refl (omega arith) (fits .x2),
+        within-allowed kind.winY2 (m .window .y2) refl (omega arith) (fits .y2),
+        within-allowed kind.ccdDelay (m .delay) refl (fits .leastDelay) (fits .delay),
+        within-allowed kind.ccdExpo (m .expo) refl (omega arith) (fits .expo),
+        sine-back (m .sine) (fits .magnitude),
+        eq-eqb sine sine refl,
+        le-leb (m .cosine) 4095 (fits .cosine),
+        vis-flags-back (m .flags),
+        eq-eqb flags flags refl,
+      )
+
+  module _ (readings : List ℕ) (sized : length readings ≡ 16) where
+    answer-back : ccdAnswerOf (readings ++ ccdStatus m) ≡ Block m
+    unfolding ccdAnswerOf ccdStatus
+    answer-back =
+        let at : (k : ℕ) → getD (readings ++ ccdStatus m) (16 + k) 0 ≡ getD (ccdStatus m) k 0 = λ k. word-at readings (ccdStatus m) 16 k sized in
+        rw (
+          eq-eqb (length (readings ++ ccdStatus m)) 25 (omega (arith, length-append readings (ccdStatus m))),
+          at 0,
+          at 1,
+          at 2,
+          at 3,
+          at 4,
+          at 5,
+          at 6,
+          at 7,
+          at 8,
+        )
+        judged-back
+
+    pub ccd-status-read : ccdReadOf (readings ++ ccdStatus m) ≡ ccdRead readings (Block m)
+    unfolding ccdReadOf ccdReadingsOf
+    ccd-status-read = rw (answer-back, take-at readings (ccdStatus m) 16 sized)
+
+pub ccd-written-read : (s : Head) (f : Flags) (a : Bool) (readings : List ℕ) (b : CcdBits) → inRange s ≡ true → length readings ≡ 16
+    → ccdReadOf (ccdBlockOf s f a readings b) ≡ ccdRead readings (Block (ccdShown s f a b))
+unfolding ccdBlockOf
+ccd-written-read s f a readings b h sized = ccd-status-read (ccdShown s f a b) (ccd-shown-fits s f a b h) readings sized
+
+windowOf : List ℕ → Window
+windowOf ws = record { x1 = getD ws 16 0; y1 = getD ws 17 0; x2 = getD ws 18 0; y2 = getD ws 19 0 }
+
+-- what a block that is read was: each word right, and the meaning what the words say
+record CcdRight (ws : List ℕ) (m : CcdMeaning) : Type 0 where
+  sized : length ws ≡ 25
+  x1 : allowed kind.winX1 (getD ws 16 0) ≡ true
+  y1 : allowed kind.winY1 (getD ws 17 0) ≡ true
+  x2 : allowed kind.winX2 (getD ws 18 0) ≡ true
+  y2 : allowed kind.winY2 (getD ws 19 0) ≡ true
+  delay : allowed kind.ccdDelay (getD ws 20 0) ≡ true
+  expo : allowed kind.ccdExpo (getD ws 21 0) ≡ true
+  sine : sineRight (getD ws 22 0) ≡ true
+  cosine : cosineRight (getD ws 23 0) ≡ true
+  flags : visFlagsRight (getD ws 24 0) ≡ true
+  said : ccdSaid (windowOf ws) (getD ws 20 0) (getD ws 21 0) (getD ws 22 0) (getD ws 23 0) (getD ws 24 0) ≡ m
+
+no-block : (r : Refusal) (m : CcdMeaning) → Refused r ≡ Block m → ⊥
+no-block r m e = let z : _≡_ {A = ℕ} 0 1 = cc in omega arith
+
+right : (ws : List ℕ) (m : CcdMeaning) → ccdAnswerOf ws ≡ Block m → CcdRight ws m
+unfolding ccdAnswerOf ccdJudged ccdRestJudged windowOf
+right ws m e =
+    let (sized, e0) = passed _ _ _ _ (no-block _ m) e in
+    let (x1, e1) = passed _ _ _ _ (no-block _ m) e0 in
+    let (y1, e2) = passed _ _ _ _ (no-block _ m) e1 in
+    let (x2, e3) = passed _ _ _ _ (no-block _ m) e2 in
+    let (y2, e4) = passed _ _ _ _ (no-block _ m) e3 in
+    let (delay, e5) = passed _ _ _ _ (no-block _ m) e4 in
+    let (expo, e6) = passed _ _ _ _ (no-block _ m) e5 in
+    let (sine, e7) = passed _ _ _ _ (no-block _ m) e6 in
+    let (cosine, e8) = passed _ _ _ _ (no-block _ m) e7 in
+    let (flags, e9) = passed _ _ _ _ (no-block _ m) e8 in
+    record {
+      sized = eqb-true (length ws) 25 sized;
+      x1 = x1;
+      y1 = y1;
+      x2 = x2;
+      y2 = y2;
+      delay = delay;
+      expo = expo;
+      sine = sine;
+      cosine = cosine;
+      flags = flags;
+      said = cc;
+    }
+
+module _ (ws : List ℕ) (m : CcdMeaning) (e : ccdAnswerOf ws ≡ Block m) where
+  pub ccd-read-fits : CcdFits m
+  unfolding ccdSaid windowOf cosineRight least greatest rows
+  ccd-read-fits =
+      let r = right ws m e in
+      rw (← r .said)
+      (record {
+        x1 = allowed-most kind.winX1 (getD ws 16 0) (r .x1);
+        y1 = allowed-most kind.winY1 (getD ws 17 0) (r .y1);
+        x2 = allowed-most kind.winX2 (getD ws 18 0) (r .x2);
+        y2 = allowed-most kind.winY2 (getD ws 19 0) (r .y2);
+        leastDelay = allowed-least kind.ccdDelay (getD ws 20 0) (r .delay);
+        delay = allowed-most kind.ccdDelay (getD ws 20 0) (r .delay);
+        expo = allowed-most kind.ccdExpo (getD ws 21 0) (r .expo);
+        magnitude = sine-fits (getD ws 22 0);
+        cosine = leb-true (getD ws 23 0) 4095 (r .cosine);
+      })
+
+  status-back : take 16 ws ++ ccdStatus m ≡ ws
+  unfolding ccdStatus ccdSaid windowOf sineRight visFlagsRight words
+  status-back =
+      let r = right ws m e in
+      let sine = eqb-true (sineWord (sineIn (getD ws 22 0))) (getD ws 22 0) (r .sine) in
+      let flags = eqb-true (visFlagWord (visFlagsIn (getD ws 24 0))) (getD ws 24 0) (r .flags) in
+      rw (← r .said, sine, flags) (put-together 16 9 ws (r .sized))
+
+-- a block that was read is written back to the same words
+module _ (ws readings : List ℕ) (m : CcdMeaning) (e : ccdReadOf ws ≡ ccdRead readings (Block m)) where
+  pub ccd-answered : ccdAnswerOf ws ≡ Block m
+  unfolding ccdReadOf
+  ccd-answered = ap (λ (r : CcdRead). r .answer) e
+
+  pub ccd-read-status : readings ++ ccdStatus m ≡ ws
+  unfolding ccdReadOf ccdReadingsOf
+  ccd-read-status =
+      let first : ccdReadingsOf (ccdAnswerOf ws) ws ≡ readings = ap (λ (r : CcdRead). r .readings) e in
+      rw (← (rw ccd-answered at first)) (status-back ws m ccd-answered)
