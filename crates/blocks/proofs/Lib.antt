@@ -5,3 +5,4 @@ pub mod Writing
 pub mod Parts
 pub mod IrRound
 pub mod CcdRound
+pub mod Rewritten
