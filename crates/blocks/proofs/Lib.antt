@@ -6,3 +6,4 @@ pub mod Parts
 pub mod IrRound
 pub mod CcdRound
 pub mod Rewritten
+pub mod Ended

@@ -1,0 +1,51 @@
+-- A tick that ends a task leads to both blocks of that state, with the five flags as they stood.
+-- Assumes nothing.
+use mathlib.Core.Path.{_≡_, refl}
+use mathlib.Core.Bool.{true}
+use mathlib.Core.List.{List}
+use Prim.Native.Nat.{ℕ}
+use borrow.Author.Tests.{eq-eqb}
+use lib.ListN.{length}
+use Rattle.head.specs.Range.{inRange}
+use Rattle.head.specs.Tick.{tickOf, passed}
+use Rattle.head.specs.declared.state.Head.{Head}
+use Rattle.head.specs.declared.tick.Due.the-variants as due
+use Rattle.head.proofs.Keep.{tick-keeps}
+use Rattle.blocks.specs.Written.{writtenOf, writtenIf, bufferAfter}
+use Rattle.blocks.specs.Ir.{irShown, irBlockOf}
+use Rattle.blocks.specs.Ccd.{ccdShown, ccdBlockOf}
+use Rattle.blocks.specs.Due.{acquisition, bothWrittenOf, dueWrittenOf, irDueAfter, ccdDueAfter}
+use Rattle.blocks.specs.declared.ir.IrBits.{IrBits}
+use Rattle.blocks.specs.declared.ccd.CcdBits.{CcdBits}
+use Rattle.blocks.specs.declared.written.Written.the-variants.{Done}
+use Rattle.blocks.specs.declared.due.DueWritten.the-variants.{Blocks}
+
+module _ (s : Head) (h : inRange s ≡ true) (last : s .work .busy ≡ 1) where
+  ends : tickOf s .due ≡ due.Blocks (s .work .task) (s .flags)
+  unfolding tickOf passed
+  ends = rw (h, eq-eqb (s .work .busy) 1 last)
+
+  kept : tickOf s .head .settings ≡ s .settings
+  unfolding tickOf passed
+  kept = rw (h, eq-eqb (s .work .busy) 1 last)
+
+  module _ (ir ccd : List ℕ) (ir-sized : length ir ≡ 20) (ccd-sized : length ccd ≡ 25) where
+    both : bothWrittenOf (tickOf s .head) ir ccd ≡ Done
+    unfolding bothWrittenOf writtenOf writtenIf
+    both = rw (eq-eqb (length ccd) 25 ccd-sized, eq-eqb (length ir) 20 ir-sized, tick-keeps s h)
+
+    pub ended-written : dueWrittenOf (tickOf s .head) (tickOf s .due) ir ccd ≡ Blocks Done
+    unfolding dueWrittenOf
+    ended-written = rw (ends, both)
+
+    pub ended-ir : (readings : List ℕ) (bits : IrBits)
+        → irDueAfter (tickOf s .head) (tickOf s .due) readings bits ir ccd
+        ≡ irBlockOf s (s .flags) (acquisition (s .work .task)) readings bits
+    unfolding irDueAfter bufferAfter irBlockOf irShown
+    ended-ir readings bits = rw (ends, both, kept)
+
+    pub ended-ccd : (readings : List ℕ) (bits : CcdBits)
+        → ccdDueAfter (tickOf s .head) (tickOf s .due) readings bits ir ccd
+        ≡ ccdBlockOf s (s .flags) (acquisition (s .work .task)) readings bits
+    unfolding ccdDueAfter bufferAfter ccdBlockOf ccdShown
+    ended-ccd readings bits = rw (ends, both, kept)
