@@ -2,15 +2,23 @@
 -- hexadecimal, all else in decimal.
 -- Assumes nothing.
 use Prim.Native.Nat.{ℕ}
-use mathlib.Core.Bool.{Bool, true, _&&_}
+use mathlib.Core.Bool.{Bool, true, false, _&&_}
 use mathlib.Core.List.{List, [], _∷_}
 use lib.Dec.{eqb}
+use lib.ListN.{getD, replicate}
 use Rattle.words.specs.Codec.{decodeOf, decodedNumber}
 use Rattle.head.specs.Limits.{lengthOf}
 use Rattle.head.specs.State.{powerOn}
 use Rattle.head.specs.Word.{answerOf}
 use Rattle.head.specs.Numbers.{outcomeNumber}
+use Rattle.head.specs.Tick.{tickOf, ticksOf}
 use Rattle.head.specs.declared.state.Head.{Head}
+use Rattle.head.specs.declared.tick.Ticked.{Ticked}
+use Rattle.blocks.specs.Ir.{irWords, irReadings}
+use Rattle.blocks.specs.Ccd.{ccdWords, ccdReadings}
+use Rattle.blocks.specs.Due.{irDueAfter, ccdDueAfter}
+use Rattle.blocks.specs.declared.ir.IrBits.{IrBits}
+use Rattle.blocks.specs.declared.ccd.CcdBits.{CcdBits}
 
 pub record Row : Type 0 where
   pub got : ℕ
@@ -51,4 +59,32 @@ fromPowerOn =
     ∷ (afterWords powerOn (0x2010 ∷ []) .begun .sinm gives 16)  -- with minus zero
     ∷ (lengthOf (powerOn .settings) gives 158)  -- power-on length 158
     ∷ (lengthOf (afterWords powerOn (0xF00A ∷ 0x080A ∷ []) .settings) gives 181)  -- with IR delay 10 and expo 10, 181
+    ∷ []
+
+-- HK from power-on, and the tick that ends it.
+unfoldable pub housekept : Ticked
+unfolding afterWords
+housekept = tickOf (ticksOf 2 (afterWords powerOn (0x4000 ∷ [])))
+
+-- The cover shut, no latch-up.
+abbrev pub coverShut : IrBits
+coverShut = record { latchup = false; notclosed = false; notopen = true }
+
+abbrev pub noLatchup : CcdBits
+noLatchup = record { latchup = false }
+
+-- The two blocks that are then due, all readings 0.
+unfoldable pub irHousekept : List ℕ
+irHousekept =
+    irDueAfter (housekept .head) (housekept .due) (replicate irReadings 0) coverShut (replicate irWords 0) (replicate ccdWords 0)
+
+unfoldable pub ccdHousekept : List ℕ
+ccdHousekept =
+    ccdDueAfter (housekept .head) (housekept .due) (replicate ccdReadings 0) noLatchup (replicate irWords 0) (replicate ccdWords 0)
+
+unfoldable pub blocksHousekept : List Row
+blocksHousekept =
+    (getD irHousekept 18 0 gives 0x0606)  -- lamp and shutter
+    ∷ (getD irHousekept 19 0 gives 0x4002)  -- IR flags
+    ∷ (getD ccdHousekept 24 0 gives 0x0002)  -- VIS flags
     ∷ []
