@@ -38,10 +38,7 @@ module _ (o : Order) (f : fit o ≡ true) where
   is-known = and-left (known (o .code)) (fieldsFit o) f
 
   pub fit-count : length (wordsOf o) ≡ length (kindsOf (o .code))
-  unfolding fit
-  fit-count =
-      ap length (words-are o is-known)
-      ∙ length-by (kindsOf (o .code)) _ (all-allowed o is-known (and-right (known (o .code)) (fieldsFit o) f))
+  fit-count = ap length (words-are o is-known) ∙ length-by (kindsOf (o .code)) _ (all-allowed o f)
 
   pub fit-few : length (wordsOf o) ≤ 4
   unfolding known
