@@ -2,7 +2,7 @@
 -- Assumes nothing.
 use lib.Dec.{T}
 use Rattle.words.specs.Kinds.{rows, kindFrom, kindOf, kinds, least, greatest, allowed}
-use Rattle.words.specs.Codec.{decodeOf, judged, decodedNumber}
+use Rattle.words.specs.Codec.{decodeOf, judged, decodedNumber, wordOf}
 use Rattle.head.specs.Limits.{lengthOf, readoutOf}
 use Rattle.head.specs.Range.{all, registerTests, latchTests, motionTests, place, begunTests, workInRange, inRange}
 use Rattle.head.specs.Flags.{outOfRangeFlags}
@@ -15,18 +15,23 @@ use Rattle.blocks.specs.Written.{writtenOf, writtenIf, bufferAfter}
 use Rattle.blocks.specs.Ir.{irBlockOf, irShown, irStatus}
 use Rattle.blocks.specs.Ccd.{ccdBlockOf, ccdShown, ccdStatus}
 use Rattle.blocks.specs.Due.{acquisition, bothWrittenOf, irDueAfter, ccdDueAfter}
-use Rattle.examples.specs.Starred.{hold, afterWords, answered, fromPowerOn, housekept, irHousekept, ccdHousekept, blocksHousekept}
+use Rattle.plan.specs.Codes.{countOf, widthOf, known, lengthOf as orderLength, within, related, fieldsFit}
+use Rattle.plan.specs.Stored.{fieldAt, orderAt, faultAt, ordersFrom, planOf}
+use Rattle.plan.specs.Words.{sineRegister, wordsOf, itemsOf, itemsOfAll}
+use Rattle.schedule.specs.Earliest.{atRest, isTaken, ready, delayWithin, delayOf}
+use Rattle.schedule.specs.Schedule.{readied, spanOf, sent, scheduleFrom}
+use Rattle.schedule.specs.Translate.{fit, scheduleOf, answerOfPlan, translateOf, translatedNumber}
+use Rattle.examples.specs.Starred.{hold, table, afterWords, answered, housekept, irHousekept, ccdHousekept}
 
-pub starred : T (hold fromPowerOn)
-unfolding hold fromPowerOn afterWords answered outcomeNumber actNumber causeNumber answerOf onDecoded onWord outOfTurn after actOf
-    outOfRangeFlags inRange all registerTests latchTests motionTests place begunTests workInRange lengthOf readoutOf decodedNumber
-    decodeOf judged kindOf kindFrom kinds rows least greatest allowed
+pub starred : T (hold table)
+unfolding hold table afterWords answered housekept irHousekept ccdHousekept
+    outcomeNumber actNumber causeNumber answerOf onDecoded onWord outOfTurn after actOf outOfRangeFlags tickOf ticksOf passed
+    inRange all registerTests latchTests motionTests place begunTests workInRange lengthOf readoutOf
+    decodedNumber decodeOf judged kindOf kindFrom kinds rows least greatest allowed wordOf
+    irDueAfter ccdDueAfter bothWrittenOf writtenOf writtenIf bufferAfter acquisition irBlockOf irShown irStatus ccdBlockOf ccdShown
+    ccdStatus lampShutterWord lampShutterFields irFlagWord irFlagFields sineWord sineIn sineFields visFlagWord visFlagFields composed
+    valuesIn
+    translateOf translatedNumber answerOfPlan fit scheduleOf scheduleFrom readied spanOf sent ready atRest isTaken delayOf delayWithin
+    planOf ordersFrom faultAt orderAt fieldAt countOf widthOf known orderLength fieldsFit within related
+    itemsOfAll itemsOf wordsOf sineRegister
 starred = tt
-
-pub starred-blocks : T (hold blocksHousekept)
-unfolding hold blocksHousekept irHousekept ccdHousekept housekept afterWords answerOf onDecoded onWord outOfTurn after actOf tickOf
-    ticksOf passed inRange all registerTests latchTests motionTests place begunTests workInRange decodeOf judged kindOf kindFrom kinds
-    rows least greatest allowed irDueAfter ccdDueAfter bothWrittenOf writtenOf writtenIf bufferAfter acquisition irBlockOf irShown
-    irStatus ccdBlockOf ccdShown ccdStatus lampShutterWord lampShutterFields irFlagWord irFlagFields sineWord sineIn sineFields
-    visFlagWord visFlagFields composed valuesIn
-starred-blocks = tt

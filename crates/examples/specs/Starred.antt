@@ -3,9 +3,9 @@
 -- Assumes nothing.
 use Prim.Native.Nat.{ℕ}
 use mathlib.Core.Bool.{Bool, true, false, _&&_}
-use mathlib.Core.List.{List, [], _∷_}
+use mathlib.Core.List.{List, [], _∷_, _++_}
 use lib.Dec.{eqb}
-use lib.ListN.{getD, replicate}
+use lib.ListN.{length, getD, replicate}
 use Rattle.words.specs.Codec.{decodeOf, decodedNumber}
 use Rattle.head.specs.Limits.{lengthOf}
 use Rattle.head.specs.State.{powerOn}
@@ -14,6 +14,9 @@ use Rattle.head.specs.Numbers.{outcomeNumber}
 use Rattle.head.specs.Tick.{tickOf, ticksOf}
 use Rattle.head.specs.declared.state.Head.{Head}
 use Rattle.head.specs.declared.tick.Ticked.{Ticked}
+use Rattle.plan.specs.Stored.{planOf}
+use Rattle.schedule.specs.Schedule.{Schedule}
+use Rattle.schedule.specs.Translate.{scheduleOf, translateOf, translatedNumber, tickList, wordList}
 use Rattle.blocks.specs.Ir.{irWords, irReadings}
 use Rattle.blocks.specs.Ccd.{ccdWords, ccdReadings}
 use Rattle.blocks.specs.Due.{irDueAfter, ccdDueAfter}
@@ -88,3 +91,49 @@ blocksHousekept =
     ∷ (getD irHousekept 19 0 gives 0x4002)  -- IR flags
     ∷ (getD ccdHousekept 24 0 gives 0x0002)  -- VIS flags
     ∷ []
+
+-- A plan translated from power-on: its timed words, and its end.
+abbrev pub scheduled : List ℕ → Schedule
+scheduled bs = scheduleOf powerOn (planOf bs)
+
+-- 01 00 00 is a plan with no orders.
+abbrev pub emptyPlan : List ℕ
+emptyPlan = 0x01 ∷ 0x00 ∷ 0x00 ∷ []
+
+-- Mirror, exposure, housekeeping.
+abbrev pub listedPlan : List ℕ
+listedPlan =
+    0x01 ∷ 0x00 ∷ 0x0A ∷ 0x05 ∷ 0x0C ∷ 0xFF ∷ 0x00 ∷ 0x0F ∷ 0xF8 ∷ 0x01 ∷ 0x0F ∷ 0x01 ∷ 0x10 ∷ []
+
+abbrev pub tickAt : ℕ → ℕ
+tickAt i = getD (tickList (scheduled listedPlan)) i 0
+
+abbrev pub wordAt : ℕ → ℕ
+wordAt i = getD (wordList (scheduled listedPlan)) i 0
+
+unfoldable pub plansListed : List Row
+plansListed =
+    (translatedNumber (translateOf powerOn emptyPlan 0 0) gives 0)  -- 01 00 00 gives 0 words, end 0
+    ∷ (length (scheduled emptyPlan .list) gives 0)
+    ∷ (scheduled emptyPlan .end gives 0)
+    ∷ (translatedNumber (translateOf powerOn listedPlan 256 256) gives 0)  -- the listing
+    ∷ (length (scheduled listedPlan .list) gives 6)
+    ∷ (tickAt 0 gives 0)
+    ∷ (wordAt 0 gives 0x2011)
+    ∷ (tickAt 1 gives 1)
+    ∷ (wordAt 1 gives 0xA000)
+    ∷ (tickAt 2 gives 2)
+    ∷ (wordAt 2 gives 0x600F)
+    ∷ (tickAt 3 gives 3)
+    ∷ (wordAt 3 gives 0xE0F8)
+    ∷ (tickAt 4 gives 33)
+    ∷ (wordAt 4 gives 0x8000)
+    ∷ (tickAt 5 gives 191)
+    ∷ (wordAt 5 gives 0x4000)
+    ∷ (scheduled listedPlan .end gives 194)
+    ∷ []
+
+-- The whole table.
+unfoldable pub table : List Row
+unfolding fromPowerOn blocksHousekept plansListed
+table = fromPowerOn ++ (blocksHousekept ++ plansListed)
