@@ -1,6 +1,6 @@
 -- A tick that ends a task leads to both blocks of that state, with the five flags as they stood.
 -- Assumes nothing.
-use mathlib.Core.Path.{_≡_, refl}
+use mathlib.Core.Path.{_≡_}
 use mathlib.Core.Bool.{true}
 use mathlib.Core.List.{List}
 use Prim.Native.Nat.{ℕ}

@@ -1,10 +1,10 @@
 -- Laws of the status words: fields in rising order share no bit, so a word composed of values holds those values, each in its
 -- field's width; and each status word says what it was composed of.
 -- Assumes nothing.
-use mathlib.Core.Path.{_≡_, refl, sym, ap, _∙_, subst}
+use mathlib.Core.Path.{_≡_, refl, sym, ap, _∙_}
 use mathlib.Core.Bool.{Bool, true, false, _&&_}
 use mathlib.Core.List.{List, [], _∷_}
-use Prim.Native.Nat.{ℕ, zero, suc, _+_, _*_, _/_, _%_, _^_, _-_, _<_, _≤_}
+use Prim.Native.Nat.{ℕ, _+_, _*_, _/_, _%_, _^_, _-_, _<_, _≤_}
 use native.Mathlib.Nat.{mod-eq-of-lt, mod-lt, mod-mod, add-mul, add-mul-mod-self-right, mul-assoc, zero-mul, add-comm, zero-add, add-assoc, lt-of-lt-of-le}
 use native.Mathlib.Omega.{arith}
 use lib.Arith.{digits-div, digits-lt}

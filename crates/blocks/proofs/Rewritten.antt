@@ -8,11 +8,11 @@ use native.Mathlib.Omega.{arith}
 use lib.Dec.{lit≤}
 use Rattle.words.specs.Kinds.{rows, least, greatest, allowed}
 use Rattle.head.specs.Range.{inRange, all, registerTests, latchTests, motionTests, begunTests, place, workInRange}
-use Rattle.head.proofs.Bounds.{bounds, in-range, Bounds, RegisterBounds}
+use Rattle.head.proofs.Bounds.{bounds, in-range, RegisterBounds}
 use Rattle.head.specs.State.{powerOn}
 use Rattle.blocks.specs.Status.{bit, isSet, sineWord, sineFields, composed}
-use Rattle.blocks.specs.Ir.{irShown, irStatus, irBlockOf, irRead, irReadOf}
-use Rattle.blocks.specs.Ccd.{ccdShown, ccdStatus, ccdBlockOf, ccdRead, ccdReadOf}
+use Rattle.blocks.specs.Ir.{irShown, irBlockOf, irRead, irReadOf}
+use Rattle.blocks.specs.Ccd.{ccdShown, ccdBlockOf, ccdRead, ccdReadOf}
 use Rattle.blocks.specs.Said.{settingsSaid, headSaid, flagsSaid, irBitsSaid, ccdBitsSaid}
 use Rattle.blocks.specs.declared.ir.IrMeaning.{IrMeaning}
 use Rattle.blocks.specs.declared.ir.IrAnswer.the-variants as ir

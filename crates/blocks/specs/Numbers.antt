@@ -3,15 +3,34 @@
 use Prim.Native.Nat.{ℕ}
 use Rattle.blocks.specs.declared.refusal.Refusal.{Refusal}
 use Rattle.blocks.specs.declared.refusal.Refusal.the-variants.{Length, State, FixedBit, OutOfRange}
+use Rattle.blocks.specs.declared.written.Written.{Written}
+use Rattle.blocks.specs.declared.written.Written.the-variants as written
+use Rattle.blocks.specs.declared.ir.IrAnswer.{IrAnswer}
+use Rattle.blocks.specs.declared.ir.IrAnswer.the-variants as ir
+use Rattle.blocks.specs.declared.ccd.CcdAnswer.{CcdAnswer}
+use Rattle.blocks.specs.declared.ccd.CcdAnswer.the-variants as ccd
 
 unfoldable pub refusalNumber : Refusal → ℕ
 refusalNumber Length = 11
-refusalNumber State = 21
 refusalNumber (FixedBit p) = 12
 refusalNumber (OutOfRange p) = 13
+refusalNumber State = 21
 
 unfoldable pub refusalPlace : Refusal → ℕ
 refusalPlace Length = 0
-refusalPlace State = 0
 refusalPlace (FixedBit p) = p
 refusalPlace (OutOfRange p) = p
+refusalPlace State = 0
+
+-- 0 where a block is written or read.
+unfoldable pub writtenNumber : Written → ℕ
+writtenNumber written.Done = 0
+writtenNumber (written.Refused r) = refusalNumber r
+
+unfoldable pub irNumber : IrAnswer → ℕ
+irNumber (ir.Block m) = 0
+irNumber (ir.Refused r) = refusalNumber r
+
+unfoldable pub ccdNumber : CcdAnswer → ℕ
+ccdNumber (ccd.Block m) = 0
+ccdNumber (ccd.Refused r) = refusalNumber r

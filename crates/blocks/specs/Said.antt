@@ -1,8 +1,6 @@
 -- A state, flags and bits from which what two blocks say could have been written: the registers that the blocks show, and all else
 -- as at power-on.
 -- Assumes nothing.
-use Prim.Native.Nat.{ℕ, _+_}
-use mathlib.Core.Bool.{Bool}
 use Rattle.words.specs.Fields.{switched, current}
 use Rattle.head.specs.State.{powerOn}
 use Rattle.head.specs.declared.state.Settings.{Settings}

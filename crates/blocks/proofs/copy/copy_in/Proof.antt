@@ -1,7 +1,7 @@
 -- `blocks::copy::copy_in` meets its contract. The loop's invariant: the first j words of `src` stand in `dst` from `at` on, and the
 -- rest of `dst` is as it was.
 -- Assumes nothing.
-use mathlib.Core.Path.{_≡_, refl, sym, ap, _∙_}
+use mathlib.Core.Path.{_≡_, _∙_}
 use mathlib.Core.List.{List}
 use Prim.Native.Nat.{ℕ, _+_, _-_, _≤_, _<_}
 use native.Mathlib.Nat.{le-antisymm}
@@ -12,8 +12,6 @@ use lib.ListN.{length, getD, set, length-set}
 use lib.Seq.{paste, paste-zero, paste-suc}
 use Rattle.blocks.proofs.copy.copy_in.Statement.{statement}
 use Rattle.blocks.proofs.copy.copy_in.Tie as tie
-use Rattle.blocks.proofs.copy.copy_in.Reads as reads
-use Rattle.blocks.proofs.copy.copy_in.Lts as lts
 
 -- a turn stores one word more
 turn : (d₀ s d : List ℕ) (at n j : ℕ) → d ≡ paste d₀ at s j → n ≤ length s → at + n ≤ length d₀ → j < n
