@@ -79,7 +79,7 @@ ccdSaid window delay expo sine cosine flags =
       flags = visFlagsIn flags;
     }
 
--- Word by word: 13 a value out of range, 12 a fixed bit is wrong. These are the words after the window.
+-- Word by word, the first faulty one decides: 13 a value out of range, 12 a fixed bit is wrong. Here the words after the window.
 unfoldable pub ccdRestJudged : Window → ℕ → ℕ → ℕ → ℕ → ℕ → CcdAnswer
 ccdRestJudged window delay expo sine cosine flags =
     cond (not (allowed kind.ccdDelay delay)) (Refused (OutOfRange 20))
@@ -96,7 +96,7 @@ ccdJudged window delay expo sine cosine flags =
     (cond (not (allowed kind.winX2 (window .x2))) (Refused (OutOfRange 18))
     (cond (not (allowed kind.winY2 (window .y2))) (Refused (OutOfRange 19)) (ccdRestJudged window delay expo sine cosine flags))))
 
--- 11 before all.
+-- 11 where there are not 25 words, before all else.
 unfoldable pub ccdAnswerOf : List ℕ → CcdAnswer
 ccdAnswerOf ws =
     let w : ℕ → ℕ = λ k. getD ws k 0 in

@@ -94,7 +94,7 @@ irSaid y1 delay expo lampshutter flags =
       flags = irFlagsIn flags;
     }
 
--- Word by word: 13 a value out of range, a wrong pair of lines told at Y2; 12 a fixed bit is wrong.
+-- Word by word, the first faulty one decides: 13 a value out of range, a wrong pair of lines told at Y2; 12 a fixed bit is wrong.
 unfoldable pub irJudged : ℕ → ℕ → ℕ → ℕ → ℕ → ℕ → IrAnswer
 irJudged y1 y2 delay expo lampshutter flags =
     cond (not (linesRight y1 y2)) (Refused (OutOfRange 15))
@@ -103,7 +103,7 @@ irJudged y1 y2 delay expo lampshutter flags =
     (cond (not (lampShutterRight lampshutter)) (Refused (FixedBit 18))
     (cond (not (irFlagsRight flags)) (Refused (FixedBit 19)) (Block (irSaid y1 delay expo lampshutter flags))))))
 
--- 11 before all.
+-- 11 where there are not 20 words, before all else.
 unfoldable pub irAnswerOf : List ℕ → IrAnswer
 irAnswerOf ws =
     let w : ℕ → ℕ = λ k. getD ws k 0 in

@@ -9,6 +9,8 @@ use Rattle.blocks.specs.declared.ir.IrAnswer.{IrAnswer}
 use Rattle.blocks.specs.declared.ir.IrAnswer.the-variants as ir
 use Rattle.blocks.specs.declared.ccd.CcdAnswer.{CcdAnswer}
 use Rattle.blocks.specs.declared.ccd.CcdAnswer.the-variants as ccd
+use Rattle.blocks.specs.declared.due.DueWritten.{DueWritten}
+use Rattle.blocks.specs.declared.due.DueWritten.the-variants as due
 
 unfoldable pub refusalNumber : Refusal → ℕ
 refusalNumber Length = 11
@@ -22,7 +24,7 @@ refusalPlace (FixedBit p) = p
 refusalPlace (OutOfRange p) = p
 refusalPlace State = 0
 
--- 0 where a block is written or read.
+-- 0 where a block is written or read, and where none is due.
 unfoldable pub writtenNumber : Written → ℕ
 writtenNumber written.Done = 0
 writtenNumber (written.Refused r) = refusalNumber r
@@ -34,3 +36,7 @@ irNumber (ir.Refused r) = refusalNumber r
 unfoldable pub ccdNumber : CcdAnswer → ℕ
 ccdNumber (ccd.Block m) = 0
 ccdNumber (ccd.Refused r) = refusalNumber r
+
+unfoldable pub dueWrittenNumber : DueWritten → ℕ
+dueWrittenNumber due.NotDue = 0
+dueWrittenNumber (due.Blocks w) = writtenNumber w

@@ -138,7 +138,8 @@ visFlagsIn w =
     let v : ℕ → Bool = λ k. isSet (getD (valuesIn visFlagFields w) k 0) in
     record { acquired = v 0; time = v 2; word = v 3; latchup = v 4; lampon = v 5 }
 
--- A fixed bit is wrong just where the word is not that of what it says.
+-- Fixed bits are those of no field, all 0, and bit 1 of a flag word, always set. One of them is wrong just where the word is not that
+-- of what it says.
 unfoldable pub lampShutterRight : ℕ → Bool
 lampShutterRight w = eqb (lampShutterWord (lampShutterIn w)) w
 

@@ -219,7 +219,8 @@ pub fn read_ccd(words: &[u16]) -> CcdRead
     CcdRead { readings, answer }
 }
 
-// Writes the block of a state, with the five flags to show, whether an acquisition ended, and the caller's readings and bits.
+// Writes the block of a state, with the five flags to show, whether an acquisition ended, and the caller's readings and bits. A
+// refusal writes nothing.
 pub fn write_ccd(
     head: Head,
     flags: Flags,

@@ -186,7 +186,8 @@ pub fn read_ir(words: &[u16]) -> IrRead
     IrRead { readings, answer }
 }
 
-// Writes the block of a state, with the five flags to show, whether an acquisition ended, and the caller's readings and bits.
+// Writes the block of a state, with the five flags to show, whether an acquisition ended, and the caller's readings and bits. A
+// refusal writes nothing.
 pub fn write_ir(
     head: Head,
     flags: Flags,
