@@ -1,0 +1,74 @@
+// Runs the examples of document 01 that are not starred, and shows the way from a tick to the two blocks: HK from power-on, cover shut.
+use blocks::ccd::CcdBits;
+use blocks::due::Given;
+use blocks::due::write_due;
+use blocks::ir::IrBits;
+use head::state::Head;
+use head::word::Cause;
+use head::word::Outcome;
+
+fn number_of(cause: Cause) -> u64 {
+    match cause {
+        Cause::State => 21,
+        Cause::Busy => 22,
+        Cause::CoverMoving => 22,
+        Cause::UnknownWord => 23,
+        Cause::Range => 24,
+        Cause::Turn => 25,
+    }
+}
+
+// 0 for a word that is taken.
+fn answer(head: Head, word: u16) -> u64 {
+    let outcome = head.word(word).outcome;
+    match outcome {
+        Outcome::Taken(_) => 0,
+        Outcome::Ignored(cause) => number_of(cause),
+    }
+}
+
+fn print_line(name: &[u8], number: u64) {
+    io::write_all(1, name);
+    io::print_decimal(1, number);
+    io::write_all(1, b"\n");
+}
+
+fn print_word(name: &[u8], word: u16) {
+    io::write_all(1, name);
+    io::print_hex(1, word as u64, 4);
+    io::write_all(1, b"\n");
+}
+
+fn words() {
+    let idle = Head::power_on();
+    let busy = idle.word(0x8000).head;
+    print_line(b"AA00 ", answer(idle, 0xAA00));
+    print_line(b"C001 idle ", answer(idle, 0xC001));
+    print_line(b"C001 busy ", answer(busy, 0xC001));
+}
+
+fn housekeeping() {
+    let asked = Head::power_on().word(0x4000).head;
+    let last = asked.tick().head.tick().head.tick();
+    let given = Given {
+        irreadings: [0; 14],
+        irbits: IrBits {
+            latchup: false,
+            notclosed: false,
+            notopen: true,
+        },
+        ccdreadings: [0; 16],
+        ccdbits: CcdBits { latchup: false },
+    };
+    let mut ir = [0u16; 20];
+    let mut ccd = [0u16; 25];
+    write_due(last, given, &mut ir, &mut ccd);
+    print_word(b"lamp and shutter ", ir[18]);
+    print_word(b"IR flags ", ir[19]);
+    print_word(b"VIS flags ", ccd[24]);
+}
+
+fn main() {
+    words();
+    housekeeping();
+}
