@@ -5,4 +5,5 @@ pub mod Answers
 pub mod Keep
 pub mod Ignored
 pub mod Ticks
+pub mod Passing
 pub mod Findings
