@@ -1,32 +1,101 @@
--- Demands 2 and 3 of every accepted plan.
+-- Demands 2 and 3 of what `translate` writes: its three promises alone give them, for every head, plan and pair of buffers.
 -- Assumes nothing.
-use mathlib.Core.Path.{_≡_}
-use mathlib.Core.Bool.{true}
-use mathlib.Core.List.{List}
-use Prim.Native.Nat.{ℕ, _≤_}
-use lib.ListN.{length}
+use mathlib.Core.Path.{_≡_, refl, sym, ap, _∙_}
+use mathlib.Core.Bool.{Bool, true, false, cond, _&&_}
+use mathlib.Core.List.{List, [], _∷_, _++_, map}
+use Prim.Native.Nat.{ℕ}
+use native.Mathlib.Omega.{arith}
+use lib.Dec.{leb}
+use lib.ListN.{length, take, drop, length-map}
+use lib.Seq.{take-at}
 use Rattle.head.specs.declared.state.Head.{Head}
-use Rattle.plan.specs.Stored.{orders, planOf}
+use Rattle.plan.specs.Stored.{Plan, orders, refused, planOf}
 use Rattle.plan.specs.Words.{itemsOfAll}
 use Rattle.plan.specs.declared.order.Order.{Order}
 use Rattle.plan.proofs.Accepted.{accepted-fit, accepted-few}
-use Rattle.schedule.specs.Schedule.{scheduleFrom, Earliest}
-use Rattle.schedule.specs.Translate.{fit}
+use Rattle.schedule.specs.Filled.{ordersIn}
+use Rattle.schedule.specs.Schedule.{Timed, Schedule, scheduleFrom}
+use Rattle.schedule.specs.Translate.{fit, scheduleOf, answerOfPlan, translateOf, filled, tickList, wordList}
+use Rattle.schedule.specs.declared.Translated.{Translated}
+use Rattle.schedule.specs.declared.Translated.the-variants.{Done, Refused, Short}
 use Rattle.schedule.proofs.Plans.{plan-earliest, plan-count, plan-end}
-use Rattle.run.specs.Claim.{WholeRun}
+use Rattle.run.specs.Claim.{paired, Demands}
 use Rattle.run.proofs.Whole.{run-whole}
 
+-- the ticks and the words of a list make the list
+pub paired-back : (l : List Timed) → paired (map (λ (x : Timed). x .tick) l) (map (λ (x : Timed). x .word) l) ≡ l
+unfolding paired
+paired-back [] = refl
+paired-back (x ∷ xs) = ap (λ (l : List Timed). x ∷ l) (paired-back xs)
+
+-- what the answer Done says
+pub record Answered (p : Plan) (sch : Schedule) (n e : ℕ) : Type 0 where
+  pub accepted : p ≡ orders (ordersIn p)
+  pub count : n ≡ length (sch .list)
+  pub end : e ≡ sch .end
+
+answered : (p : Plan) (sch : Schedule) (a b n e : ℕ) → Done n e ≡ answerOfPlan p sch a b → Answered p sch n e
+unfolding answerOfPlan
+answered (refused m q) sch a b n e h = let z : _≡_ {A = ℕ} 0 1 = cc in absurd (omega arith)
+answered (orders os) sch a b n e h = go (leb (length (sch .list)) a && leb (length (sch .list)) b) h
+  where
+    go : (x : Bool) → Done n e ≡ cond x (Done (length (sch .list)) (sch .end)) (Short (length (sch .list))) → Answered (orders os) sch n e
+    go true k = record { accepted = refl; count = cc; end = cc }
+    go false k = let z : _≡_ {A = ℕ} 0 1 = cc in absurd (omega arith)
+
+-- the schedule of an accepted plan
 module _ (s : Head) (bs : List ℕ) (os : List Order) (h : fit s ≡ true) (e : planOf bs ≡ orders os) where
-  -- Demand 2: every word goes at the earliest tick the rules allow
-  pub accepted-earliest : Earliest s (itemsOfAll os)
-  accepted-earliest = plan-earliest s h os (accepted-fit bs os e)
+  schedule-demands : (sch : Schedule) → sch ≡ scheduleFrom s 0 (itemsOfAll os) → (n : ℕ) → n ≡ length (sch .list)
+      → Demands s bs os (sch .list) n (sch .end)
+  schedule-demands sch is n long =
+      let all = accepted-fit bs os e in
+      let few = accepted-few bs os e in
+      record {
+        accepted = e;
+        few = few;
+        fits = h;
+        scheduled = is;
+        counted = sym long;
+        most = rw (long, is) (plan-count s h os all few);
+        latest = rw is (plan-end s h os all few);
+        earliest = plan-earliest s h os all;
+        run = rw is (run-whole s os h all);
+      }
 
-  pub accepted-count : length (scheduleFrom s 0 (itemsOfAll os) .list) ≤ 256
-  accepted-count = plan-count s h os (accepted-fit bs os e) (accepted-few bs os e)
+-- `translate` answered Done n e; W and T are the buffers as they were lent, W' and T' as they came back
+module _ (s : Head) (bs W T W' T' : List ℕ) (n e : ℕ)
+    (answer : Done n e ≡ translateOf s bs (length W) (length T))
+    (words : W' ≡ filled (Done n e) (wordList (scheduleOf s (planOf bs))) W)
+    (ticks : T' ≡ filled (Done n e) (tickList (scheduleOf s (planOf bs))) T) where
+  done-fit : (x : Bool) → fit s ≡ x → fit s ≡ true
+  unfolding translateOf
+  done-fit true h = h
+  done-fit false h = let k = rw h at answer in let z : _≡_ {A = ℕ} 0 1 = cc in absurd (omega arith)
 
-  pub accepted-end : scheduleFrom s 0 (itemsOfAll os) .end ≤ 4194240
-  accepted-end = plan-end s h os (accepted-fit bs os e) (accepted-few bs os e)
+  pub translated-fit : fit s ≡ true
+  translated-fit = done-fit (fit s) refl
 
--- Demand 3: the whole run of an accepted plan on a head in the state it was translated for
-pub whole-run : (s : Head) (bs : List ℕ) (os : List Order) → fit s ≡ true → planOf bs ≡ orders os → WholeRun s os
-whole-run s bs os h e = run-whole s os h (accepted-fit bs os e)
+  done : Answered (planOf bs) (scheduleOf s (planOf bs)) n e
+  unfolding translateOf
+  done = answered (planOf bs) (scheduleOf s (planOf bs)) (length W) (length T) n e (rw translated-fit at answer)
+
+  pub translated-schedule : scheduleOf s (planOf bs) ≡ scheduleFrom s 0 (itemsOfAll (ordersIn (planOf bs)))
+  unfolding scheduleOf
+  translated-schedule = ap (scheduleOf s) (done .accepted)
+
+  front : (f : Timed → ℕ) (old new : List ℕ) → new ≡ filled (Done n e) (map f (scheduleOf s (planOf bs) .list)) old
+      → take n new ≡ map f (scheduleOf s (planOf bs) .list)
+  unfolding filled
+  front f old new is =
+      let l = map f (scheduleOf s (planOf bs) .list) in
+      ap (take n) is ∙ take-at l (drop (length l) old) n (length-map (scheduleOf s (planOf bs) .list) f ∙ sym (done .count))
+
+  pub translated-list : paired (take n T') (take n W') ≡ scheduleOf s (planOf bs) .list
+  translated-list =
+      rw (front (λ (x : Timed). x .tick) T T' ticks, front (λ (x : Timed). x .word) W W' words) (paired-back (scheduleOf s (planOf bs) .list))
+
+  -- demands 2 and 3 of the first n places of the buffers
+  pub translated-demands : Demands s bs (ordersIn (planOf bs)) (paired (take n T') (take n W')) n e
+  translated-demands =
+      rw (translated-list, done .end)
+      (schedule-demands s bs (ordersIn (planOf bs)) translated-fit (done .accepted) (scheduleOf s (planOf bs)) translated-schedule n (done .count))

@@ -249,7 +249,8 @@ run-done {c} (paused {is = is} {ms = st} n r) s i t =
     (run-done r (ticksOf n s) (idle-ticks n s c i) (t + n)))
 
 -- Demand 3, for a head that is fit and orders that are known and fit
-pub run-whole : (s : Head) (os : List Order) → fit s ≡ true → AllFit os → WholeRun s os
+pub run-whole : (s : Head) (os : List Order) → fit s ≡ true → AllFit os
+    → WholeRun s os (scheduleFrom s 0 (itemsOfAll os) .list) (scheduleFrom s 0 (itemsOfAll os) .end)
 unfolding lastingOf
 run-whole s os h all =
     let meaning = plan-meaning os all in

@@ -1,19 +1,22 @@
--- Demand 3 as one claim about the whole run.
+-- Demand 3 as one claim about the whole run, and demand 2 beside it.
 -- Assumes nothing.
-use Prim.Native.Nat.{ℕ}
+use Prim.Native.Nat.{ℕ, _≤_}
 use mathlib.Core.Path.{_≡_}
 use mathlib.Core.Bool.{true}
-use mathlib.Core.List.{List, [], _∷_, map, _++_}
-use mathlib.Core.Option.{Option, none, some}
+use mathlib.Core.List.{List, [], _∷_, map}
+use mathlib.Core.Option.{none, some}
+use lib.ListN.{length}
 use Rattle.head.specs.Word.{answerOf}
 use Rattle.head.specs.declared.state.Settings.{Settings}
 use Rattle.head.specs.declared.state.Head.{Head}
 use Rattle.plan.specs.Reading.{settingsRead, logRead}
+use Rattle.plan.specs.Stored.{orders, planOf}
 use Rattle.plan.specs.Words.{itemsOfAll}
 use Rattle.plan.specs.declared.order.Order.{Order}
 use Rattle.schedule.specs.Earliest.{isTaken, startWord, atRest}
-use Rattle.schedule.specs.Schedule.{Timed, Schedule, scheduleFrom}
-use Rattle.run.specs.Run.{Moment, momentsOf, headAfter, logOf, next, answered}
+use Rattle.schedule.specs.Schedule.{Timed, scheduleFrom, Earliest}
+use Rattle.schedule.specs.Translate.{fit}
+use Rattle.run.specs.Run.{Moment, momentsOf, headAfter, logOf}
 
 -- The words that were given, in order.
 unfoldable pub givenIn : List Moment → List ℕ
@@ -45,24 +48,39 @@ StartsHeld [] last = Unit {0}
 StartsHeld (m ∷ ms) last =
     (m .given ≡ some startWord → Resting (m .head .settings) (m .head) × Held (m .head .settings) ms last) × StartsHeld ms last
 
-abbrev pub plannedFor : Head → List Order → Schedule
-plannedFor s os = scheduleFrom s 0 (itemsOfAll os)
+-- Two buffers read as timed words: each tick with the word at its place.
+unfoldable pub paired : List ℕ → List ℕ → List Timed
+paired [] ws = []
+paired (t ∷ ts) [] = []
+paired (t ∷ ts) (w ∷ ws) = record { tick = t; word = w } ∷ paired ts ws
 
-abbrev pub momentsFor : Head → List Order → List Moment
-momentsFor s os = momentsOf (plannedFor s os .end) 0 (plannedFor s os .list) s
-
-abbrev pub headFor : Head → List Order → Head
-headFor s os = headAfter (plannedFor s os .end) 0 (plannedFor s os .list) s
-
--- The claim for a head and the orders of a plan.
-pub record WholeRun (s : Head) (os : List Order) : Type 0 where
+-- The claim for a head, the orders of a plan, a list of timed words and an end.
+pub record WholeRun (s : Head) (os : List Order) (list : List Timed) (end : ℕ) : Type 0 where
   -- At the end its settings are exactly those that the plan, read order by order without any words, says.
-  pub settings : headFor s os .settings ≡ settingsRead (s .settings) os
-  -- The exposures, housekeeping requests and cover moves it made, taken as one list, equal the plan's.
-  pub log : logOf (momentsFor s os) ≡ logRead (s .settings) os
+  pub settings : headAfter end 0 list s .settings ≡ settingsRead (s .settings) os
+  -- The exposures, housekeeping requests and cover moves it made, taken as one list, equal the plan's: the same ones in the same
+  -- sequence, each exposure under all the settings the plan gives it.
+  pub log : logOf (momentsOf end 0 list s) ≡ logRead (s .settings) os
   -- From each START until the head is idle again nothing moves and no setting changes.
-  pub held : StartsHeld (momentsFor s os) (headFor s os)
+  pub held : StartsHeld (momentsOf end 0 list s) (headAfter end 0 list s)
   -- Every word is taken, and after it the five error flags stand as they stood before it.
-  pub obeyed : AllObeyed (momentsFor s os)
+  pub obeyed : AllObeyed (momentsOf end 0 list s)
   -- Every translated word was given, in order: none is lost, or hidden by another.
-  pub given : givenIn (momentsFor s os) ≡ map (λ (x : Timed). x .word) (plannedFor s os .list)
+  pub given : givenIn (momentsOf end 0 list s) ≡ map (λ (x : Timed). x .word) list
+
+-- Demands 2 and 3 of a list of n timed words and an end, for a head and the bytes of a plan with these orders.
+pub record Demands (s : Head) (bs : List ℕ) (os : List Order) (list : List Timed) (n end : ℕ) : Type 0 where
+  -- Any accepted plan of up to 64 orders.
+  pub accepted : planOf bs ≡ orders os
+  pub few : length os ≤ 64
+  -- A head in the state it was translated for: idle, mirror and cover at rest, whatever else that state holds.
+  pub fits : fit s ≡ true
+  -- Words, ticks and end are those of document 01's rules: at most 256 words, and the end at most 4,194,240.
+  pub scheduled : record { list = list; end = end } ≡ scheduleFrom s 0 (itemsOfAll os)
+  pub counted : length list ≡ n
+  pub most : n ≤ 256
+  pub latest : end ≤ 4194240
+  -- Demand 2: every word goes at the earliest tick the rules allow.
+  pub earliest : Earliest s (itemsOfAll os)
+  -- Demand 3: the whole run.
+  pub run : WholeRun s os list end

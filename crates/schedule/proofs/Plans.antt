@@ -21,7 +21,7 @@ use Rattle.plan.specs.Codes as code
 use Rattle.plan.specs.Words.{Item, itemsOf, itemsOfAll}
 use Rattle.plan.specs.declared.order.Order.{Order}
 use Rattle.schedule.specs.Earliest.{atRest, delayOf, startWord, hkWord}
-use Rattle.schedule.specs.Schedule.{Timed, readied, spanOf, sent, scheduleFrom, Earliest}
+use Rattle.schedule.specs.Schedule.{Timed, readied, spanOf, sent, scheduleFrom, Earliest, Rising}
 use Rattle.words.proofs.Allowed.{allowed-bits}
 use Rattle.schedule.specs.Clock.{Near, clockOf, clockAfter, clockPaused, clockThrough, clockedFrom}
 use Rattle.schedule.specs.declared.clock.Clock.{Clock}
@@ -139,11 +139,6 @@ end-within {n} (given k b fine turn r) s i t =
 end-within {n} (paused m r) s i t =
     let rest = end-within r (ticksOf m s) (idle-ticks m s n i) (t + m) in
     omega arith
-
--- ticks from t on, each later than the one before and the last before the end
-abbrev pub Rising : ℕ → List Timed → ℕ → Type 0
-Rising t [] end = t ≤ end
-Rising t (x ∷ xs) end = (t ≤ x .tick) × Rising (x .tick + 1) xs end
 
 rising-from : (t u : ℕ) (l : List Timed) (end : ℕ) → t ≤ u → Rising u l end → Rising t l end
 rising-from t u [] end h r = omega arith

@@ -1,6 +1,6 @@
 -- Document 01, "Plans": the words of a plan with their ticks, and its end.
 -- Assumes nothing.
-use Prim.Native.Nat.{ℕ, _+_, _<_}
+use Prim.Native.Nat.{ℕ, _+_, _<_, _≤_}
 use mathlib.Core.Path.{_≡_}
 use mathlib.Core.Bool.{true, false, cond}
 use mathlib.Core.List.{List, [], _∷_}
@@ -50,3 +50,8 @@ Earliest s (send w ∷ is) =
     × ((n : ℕ) → n < delayOf s w → ready (ticksOf n s) w ≡ false)
     × Earliest (sent s w) is
 Earliest s (pause n ∷ is) = Earliest (ticksOf n s) is
+
+-- The ticks of a list from t on rise strictly, and the last is before the end.
+abbrev pub Rising : ℕ → List Timed → ℕ → Type 0
+Rising t [] end = t ≤ end
+Rising t (x ∷ xs) end = (t ≤ x .tick) × Rising (x .tick + 1) xs end
