@@ -3,10 +3,10 @@
 use mathlib.Core.Path.{_≡_, refl, sym, ap, _∙_}
 use mathlib.Core.Bool.{Bool, true, false, cond, _&&_}
 use mathlib.Core.List.{List, [], _∷_, _++_, map}
-use Prim.Native.Nat.{ℕ}
+use Prim.Native.Nat.{ℕ, _≤_}
 use native.Mathlib.Omega.{arith}
 use lib.Dec.{leb}
-use lib.ListN.{length, take, drop, length-map}
+use lib.ListN.{length, take, drop, length-map, length-append}
 use lib.Seq.{take-at}
 use Rattle.head.specs.declared.state.Head.{Head}
 use Rattle.plan.specs.Stored.{Plan, orders, refused, planOf}
@@ -14,11 +14,11 @@ use Rattle.plan.specs.Words.{itemsOfAll}
 use Rattle.plan.specs.declared.order.Order.{Order}
 use Rattle.plan.proofs.Accepted.{accepted-fit, accepted-few}
 use Rattle.schedule.specs.Filled.{ordersIn}
-use Rattle.schedule.specs.Schedule.{Timed, Schedule, scheduleFrom}
+use Rattle.schedule.specs.Schedule.{Timed, Schedule, scheduleFrom, Rising}
 use Rattle.schedule.specs.Translate.{fit, scheduleOf, answerOfPlan, translateOf, filled, tickList, wordList}
 use Rattle.schedule.specs.declared.Translated.{Translated}
 use Rattle.schedule.specs.declared.Translated.the-variants.{Done, Refused, Short}
-use Rattle.schedule.proofs.Plans.{plan-earliest, plan-count, plan-end}
+use Rattle.schedule.proofs.Plans.{plan-earliest, plan-rising, plan-count, plan-end}
 use Rattle.run.specs.Claim.{paired, Demands}
 use Rattle.run.proofs.Whole.{run-whole}
 
@@ -83,12 +83,27 @@ module _ (s : Head) (bs W T W' T' : List ℕ) (n e : ℕ)
   unfolding scheduleOf
   translated-schedule = ap (scheduleOf s) (done .accepted)
 
-  front : (f : Timed → ℕ) (old new : List ℕ) → new ≡ filled (Done n e) (map f (scheduleOf s (planOf bs) .list)) old
-      → take n new ≡ map f (scheduleOf s (planOf bs) .list)
-  unfolding filled
-  front f old new is =
-      let l = map f (scheduleOf s (planOf bs) .list) in
-      ap (take n) is ∙ take-at l (drop (length l) old) n (length-map (scheduleOf s (planOf bs) .list) f ∙ sym (done .count))
+  -- a buffer that was filled with a number of each timed word
+  module _ (f : Timed → ℕ) (old new : List ℕ) (is : new ≡ filled (Done n e) (map f (scheduleOf s (planOf bs) .list)) old) where
+    abbrev values : List ℕ
+    values = map f (scheduleOf s (planOf bs) .list)
+
+    long : length values ≡ n
+    long = length-map (scheduleOf s (planOf bs) .list) f ∙ sym (done .count)
+
+    front : take n new ≡ map f (scheduleOf s (planOf bs) .list)
+    unfolding filled
+    front = ap (take n) is ∙ take-at values (drop (length values) old) n long
+
+    room : n ≤ length new
+    unfolding filled
+    room = omega (arith, ap length is, length-append values (drop (length values) old), long)
+
+  pub room-words : n ≤ length W'
+  room-words = room (λ (x : Timed). x .word) W W' words
+
+  pub room-ticks : n ≤ length T'
+  room-ticks = room (λ (x : Timed). x .tick) T T' ticks
 
   pub translated-list : paired (take n T') (take n W') ≡ scheduleOf s (planOf bs) .list
   translated-list =
@@ -99,3 +114,8 @@ module _ (s : Head) (bs W T W' T' : List ℕ) (n e : ℕ)
   translated-demands =
       rw (translated-list, done .end)
       (schedule-demands s bs (ordersIn (planOf bs)) translated-fit (done .accepted) (scheduleOf s (planOf bs)) translated-schedule n (done .count))
+
+  pub translated-rising : Rising 0 (paired (take n T') (take n W')) e
+  translated-rising =
+      let os = ordersIn (planOf bs) in
+      rw (translated-list, done .end, translated-schedule) (plan-rising s translated-fit os (accepted-fit bs os (done .accepted)))

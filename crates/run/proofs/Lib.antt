@@ -3,3 +3,5 @@ pub mod Meaning
 pub mod Quiet
 pub mod Whole
 pub mod Accepted
+pub mod Rehearsing
+pub mod Rehearsal

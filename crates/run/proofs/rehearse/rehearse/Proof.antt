@@ -1,0 +1,89 @@
+-- `run::rehearse::rehearse` meets its contract: each way through the code is a law of `Rehearsal`.
+-- Assumes nothing.
+use denote.Ref.{now}
+use Rattle.run.proofs.Rehearsal.{way-words, way-ticks, way-rising, way-done, way-refused, way-short}
+use borrow.Author.Needs.{needs}
+use Rattle.run.proofs.rehearse.rehearse.Statement.{statement}
+use Rattle.run.proofs.rehearse.rehearse.Tie as tie
+
+translate-requires : tie.Need-translate-requires
+translate-requires c κs = search needs
+
+enum-known-answer : tie.Need-enum-known-answer
+enum-known-answer c = search needs
+
+run-words-requires : tie.Need-run-words-requires
+run-words-requires c κs =
+    let a = c .before .before .before .before .before .before .before .before .before .before .before .before .before .before .before .args in
+    let t = c .before .before .before .before .before .before .before .before .before .translate in
+    let d = c .before .before .before .answer .given in (
+      way-words (a .head) (now (a .plan)) (now (a .words)) (now (a .ticks)) (t .last .1 .1 .0) (t .last .1 .1 .1 .0) (t .result) (t .ensures) (d .0 .0) (d .0 .1 .0) (d .1),
+      (
+        way-ticks (a .head) (now (a .plan)) (now (a .words)) (now (a .ticks)) (t .last .1 .1 .0) (t .last .1 .1 .1 .0) (t .result) (t .ensures) (d .0 .0) (d .0 .1 .0) (d .1),
+        way-rising (a .head) (now (a .plan)) (now (a .words)) (now (a .ticks)) (t .last .1 .1 .0) (t .last .1 .1 .1 .0) (t .result) (t .ensures) (d .0 .0) (d .0 .1 .0) (d .1),
+      ),
+    )
+
+enum-known-answer-2 : tie.Need-enum-known-answer-2
+enum-known-answer-2 c = search needs
+
+enum-known-answer-3 : tie.Need-enum-known-answer-3
+enum-known-answer-3 c = search needs
+
+same-length : tie.Need-same-length
+same-length c = search needs
+
+same-length-2 : tie.Need-same-length-2
+same-length-2 c = search needs
+
+returns : tie.Need-returns
+returns c =
+    let a = c .before .before .before .before .before .before .before .before .before .before .before .before .before .before .before .before .args in
+    let t = c .before .before .before .before .before .before .before .before .before .before .translate in
+    let d = c .before .before .before .before .answer .given in
+    way-done (a .head) (now (a .plan)) (now (a .words)) (now (a .ticks)) (t .last .1 .1 .0) (t .last .1 .1 .1 .0) (t .result) (t .ensures) (d .0 .0) (d .0 .1 .0) (d .1) (c .run-words .result) (c .run-words .ensures)
+
+same-length-3 : tie.Need-same-length-3
+same-length-3 c = search needs
+
+same-length-4 : tie.Need-same-length-4
+same-length-4 c = search needs
+
+returns-2 : tie.Need-returns-2
+returns-2 c =
+    let a = c .before .before .before .before .before .before .before .before .before .before .before .before .before .args in
+    let t = c .before .before .before .before .before .before .before .translate in
+    let d = c .before .answer2 .given in
+    way-refused (a .head) (now (a .plan)) (now (a .words)) (now (a .ticks)) (t .last .1 .1 .0) (t .last .1 .1 .1 .0) (t .result) (t .ensures) (d .0 .0) (d .0 .1 .0) (d .1)
+
+same-length-5 : tie.Need-same-length-5
+same-length-5 c = search needs
+
+same-length-6 : tie.Need-same-length-6
+same-length-6 c = search needs
+
+returns-3 : tie.Need-returns-3
+returns-3 c =
+    let a = c .before .before .before .before .before .before .before .before .before .before .before .before .before .args in
+    let t = c .before .before .before .before .before .before .before .translate in
+    let d = c .before .answer3 .given in
+    way-short (a .head) (now (a .plan)) (now (a .words)) (now (a .ticks)) (t .last .1 .1 .0) (t .last .1 .1 .1 .0) (t .result) (t .ensures) (d .0 .0) (d .1)
+
+pub rehearse-spec : {M : Type 1} → statement M
+rehearse-spec =
+    tie.close
+    (tie.spec
+    translate-requires
+    enum-known-answer
+    run-words-requires
+    enum-known-answer-2
+    enum-known-answer-3
+    same-length
+    same-length-2
+    returns
+    same-length-3
+    same-length-4
+    returns-2
+    same-length-5
+    same-length-6
+    returns-3)
