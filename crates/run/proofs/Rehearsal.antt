@@ -26,16 +26,16 @@ Answers s bs W T r W' T' =
     × ((T' ≡ filled (translationOf r) (tickList (scheduleOf s (planOf bs))) T)
     × Fulfilled s bs W' T' r))
 
-module _ (s : Head) (bs W T W' T' : List ℕ) (r : Translated) (told : Told s bs W T r W' T') where
-  pub way-refused : (n p : ℕ) → r ≡ Translated.Refused n p → Answers s bs W T (Rehearsed.Refused n p) W' T'
+module _ (s : Head) (bs W T : List ℕ) {W' T' : List ℕ} {r : Translated} (told : Told s bs W T r W' T') where
+  pub way-refused : {n p : ℕ} → r ≡ Translated.Refused n p → Answers s bs W T (Rehearsed.Refused n p) W' T'
   unfolding rehearseOf rehearsedBy translationOf Fulfilled
-  way-refused n p is = let t = rw is at told in (rw (← (t .0)) refl, (t .1 .0, (t .1 .1, tt)))
+  way-refused is = let t = rw is at told in (rw (← (t .0)) refl, (t .1 .0, (t .1 .1, tt)))
 
-  pub way-short : (n : ℕ) → r ≡ Translated.Short n → Answers s bs W T (Rehearsed.Short n) W' T'
+  pub way-short : {n : ℕ} → r ≡ Translated.Short n → Answers s bs W T (Rehearsed.Short n) W' T'
   unfolding rehearseOf rehearsedBy translationOf Fulfilled
-  way-short n is = let t = rw is at told in (rw (← (t .0)) refl, (t .1 .0, (t .1 .1, tt)))
+  way-short is = let t = rw is at told in (rw (← (t .0)) refl, (t .1 .0, (t .1 .1, tt)))
 
-  module _ (n e : ℕ) (is : r ≡ Translated.Done n e) where
+  module _ {n e : ℕ} (is : r ≡ Translated.Done n e) where
     done : Told s bs W T (Translated.Done n e) W' T'
     done = rw is at told
 
@@ -48,9 +48,9 @@ module _ (s : Head) (bs W T W' T' : List ℕ) (r : Translated) (told : Told s bs
     pub way-rising : Rising 0 (paired (take n T') (take n W')) e
     way-rising = translated-rising s bs W T W' T' n e (done .0) (done .1 .0) (done .1 .1)
 
-    pub way-done : (h : Head) → h ≡ headAfter e 0 (paired (take n T') (take n W')) s → Answers s bs W T (Rehearsed.Done h n e) W' T'
+    pub way-done : {h : Head} → h ≡ headAfter e 0 (paired (take n T') (take n W')) s → Answers s bs W T (Rehearsed.Done h n e) W' T'
     unfolding rehearseOf rehearsedBy translationOf Fulfilled
-    way-done h ran =
+    way-done ran =
         let list = translated-list s bs W T W' T' n e (done .0) (done .1 .0) (done .1 .1) in
         let end = ran ∙ ap (λ (l : List Timed). headAfter e 0 l s) list in (
           ap (λ (x : Head). Rehearsed.Done x n e) end ∙ ap (rehearsedBy s (scheduleOf s (planOf bs))) (done .0),

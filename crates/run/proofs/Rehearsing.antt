@@ -68,12 +68,12 @@ pub record Running (words ticks : List ℕ) (count end : ℕ) (head state : Head
   pub same : headAfter end 0 (paired (take count ticks) (take count words)) head
       ≡ headAfter (end - clock) clock (drop i (paired (take count ticks) (take count words))) state
 
-module _ (words ticks : List ℕ) (count end : ℕ) (head : Head) where
+module _ {words ticks : List ℕ} {count end : ℕ} {head : Head} where
   pub running-first : count ≤ length words → count ≤ length ticks → Rising 0 (paired (take count ticks) (take count words)) end
       → Running words ticks count end head head 0 0
   running-first p q r = record { roomWords = p; roomTicks = q; rising = r; same = rw (sub-zero end) }
 
-  module _ (state : Head) (clock i : ℕ) (h : Running words ticks count end head state clock i) where
+  module _ {state : Head} {clock i : ℕ} (h : Running words ticks count end head state clock i) where
     abbrev list : List Timed
     list = paired (take count ticks) (take count words)
 
@@ -103,9 +103,9 @@ module _ (words ticks : List ℕ) (count end : ℕ) (head : Head) where
       pub running-before : getD ticks i 0 + 1 ≤ end
       running-before = rising-end (getD ticks i 0 + 1) (drop (i + 1) list) end (rises .1)
 
-      pub running-next : (after : Head) → after ≡ next (ticksOf (getD ticks i 0 - clock) state) (some (getD words i 0))
+      pub running-next : {after : Head} → after ≡ next (ticksOf (getD ticks i 0 - clock) state) (some (getD words i 0))
           → Running words ticks count end head after (getD ticks i 0 + 1) (i + 1)
-      running-next after is =
+      running-next is =
           record {
             roomWords = h .roomWords;
             roomTicks = h .roomTicks;
@@ -117,9 +117,9 @@ module _ (words ticks : List ℕ) (count end : ℕ) (head : Head) where
                 ∙ rw is;
           }
 
-    pub running-last : count ≤ i → (r : Head) → r ≡ ticksOf (end - clock) state → r ≡ headAfter end 0 list head
+    pub running-last : count ≤ i → {r : Head} → r ≡ ticksOf (end - clock) state → r ≡ headAfter end 0 list head
     unfolding wordAt
-    running-last all r is =
+    running-last all is =
         let none-left = drop-of-length-le list {i = i} (rw long all) in
         is
         ∙ sym (quiet-head [] (end - clock) clock state (λ u p q. refl))

@@ -1,6 +1,5 @@
 -- `run::rehearse::rehearse` meets its contract: each way through the code is a law of `Rehearsal`.
 -- Assumes nothing.
-use denote.Ref.{now}
 use Rattle.run.proofs.Rehearsal.{way-words, way-ticks, way-rising, way-done, way-refused, way-short}
 use borrow.Author.Needs.{needs}
 use Rattle.run.proofs.rehearse.rehearse.Statement.{statement}
@@ -14,13 +13,12 @@ enum-known-answer c = search needs
 
 run-words-requires : tie.Need-run-words-requires
 run-words-requires c κs =
-    let a = c .before .before .before .before .before .before .before .before .before .before .before .before .before .before .before .args in
     let t = c .before .before .before .before .before .before .before .before .before .translate in
     let d = c .before .before .before .answer .given in (
-      way-words (a .head) (now (a .plan)) (now (a .words)) (now (a .ticks)) (t .last .1 .1 .0) (t .last .1 .1 .1 .0) (t .result) (t .ensures) (d .0 .0) (d .0 .1 .0) (d .1),
+      way-words _ _ _ _ (t .ensures) (d .1),
       (
-        way-ticks (a .head) (now (a .plan)) (now (a .words)) (now (a .ticks)) (t .last .1 .1 .0) (t .last .1 .1 .1 .0) (t .result) (t .ensures) (d .0 .0) (d .0 .1 .0) (d .1),
-        way-rising (a .head) (now (a .plan)) (now (a .words)) (now (a .ticks)) (t .last .1 .1 .0) (t .last .1 .1 .1 .0) (t .result) (t .ensures) (d .0 .0) (d .0 .1 .0) (d .1),
+        way-ticks _ _ _ _ (t .ensures) (d .1),
+        way-rising _ _ _ _ (t .ensures) (d .1),
       ),
     )
 
@@ -38,10 +36,9 @@ same-length-2 c = search needs
 
 returns : tie.Need-returns
 returns c =
-    let a = c .before .before .before .before .before .before .before .before .before .before .before .before .before .before .before .before .args in
     let t = c .before .before .before .before .before .before .before .before .before .before .translate in
     let d = c .before .before .before .before .answer .given in
-    way-done (a .head) (now (a .plan)) (now (a .words)) (now (a .ticks)) (t .last .1 .1 .0) (t .last .1 .1 .1 .0) (t .result) (t .ensures) (d .0 .0) (d .0 .1 .0) (d .1) (c .run-words .result) (c .run-words .ensures)
+    way-done _ _ _ _ (t .ensures) (d .1) (c .run-words .ensures)
 
 same-length-3 : tie.Need-same-length-3
 same-length-3 c = search needs
@@ -51,10 +48,9 @@ same-length-4 c = search needs
 
 returns-2 : tie.Need-returns-2
 returns-2 c =
-    let a = c .before .before .before .before .before .before .before .before .before .before .before .before .before .args in
     let t = c .before .before .before .before .before .before .before .translate in
     let d = c .before .answer2 .given in
-    way-refused (a .head) (now (a .plan)) (now (a .words)) (now (a .ticks)) (t .last .1 .1 .0) (t .last .1 .1 .1 .0) (t .result) (t .ensures) (d .0 .0) (d .0 .1 .0) (d .1)
+    way-refused _ _ _ _ (t .ensures) (d .1)
 
 same-length-5 : tie.Need-same-length-5
 same-length-5 c = search needs
@@ -64,10 +60,9 @@ same-length-6 c = search needs
 
 returns-3 : tie.Need-returns-3
 returns-3 c =
-    let a = c .before .before .before .before .before .before .before .before .before .before .before .before .before .args in
     let t = c .before .before .before .before .before .before .before .translate in
     let d = c .before .answer3 .given in
-    way-short (a .head) (now (a .plan)) (now (a .words)) (now (a .ticks)) (t .last .1 .1 .0) (t .last .1 .1 .1 .0) (t .result) (t .ensures) (d .0 .0) (d .1)
+    way-short _ _ _ _ (t .ensures) (d .1)
 
 pub rehearse-spec : {M : Type 1} → statement M
 rehearse-spec =

@@ -18,7 +18,7 @@ loop-holds : tie.Need-loop-holds Inv-loop μ-loop
 loop-holds c =
     let a = c .before .before .args in
     let p = c .before .before .pre in
-    running-first (now (a .words)) (now (a .ticks)) (a .count) (a .end) (a .head) (p .0) (p .1 .0) (p .1 .1)
+    running-first (p .0) (p .1 .0) (p .1 .1)
 
 mul-tick : tie.Need-mul-tick Inv-loop μ-loop
 mul-tick c = search needs
@@ -31,7 +31,7 @@ sub-give c =
     let a = c .before .before .before .before .before .args in
     let at = c .before .before .loop in
     let more : at .i < a .count = omega arith in
-    omega (arith, running-after (now (a .words)) (now (a .ticks)) (a .count) (a .end) (a .head) (at .state) (at .clock) (at .i) (at .inv) more)
+    omega (arith, running-after (at .inv) more)
 
 mul-give : tie.Need-mul-give Inv-loop μ-loop
 mul-give c = search needs
@@ -47,7 +47,7 @@ add-clock c =
     let a = c .before .before .before .before .before .before .before .args in
     let at = c .before .before .before .before .loop in
     let more : at .i < a .count = omega arith in
-    omega (arith, running-before (now (a .words)) (now (a .ticks)) (a .count) (a .end) (a .head) (at .state) (at .clock) (at .i) (at .inv) more)
+    omega (arith, running-before (at .inv) more)
 
 add-i : tie.Need-add-i Inv-loop μ-loop
 add-i c = search needs
@@ -60,13 +60,13 @@ loop-again c =
     let a = c .before .before .before .before .before .before .before .args in
     let at = c .before .before .before .before .loop in
     let more : at .i < a .count = omega arith in
-    running-next (now (a .words)) (now (a .ticks)) (a .count) (a .end) (a .head) (at .state) (at .clock) (at .i) (at .inv) more (c .give .result) (c .give .ensures)
+    running-next (at .inv) more (c .give .ensures)
 
 sub-pass : tie.Need-sub-pass Inv-loop μ-loop
 sub-pass c =
     let a = c .before .before .before .before .args in
     let at = c .before .loop in
-    omega (arith, running-ends (now (a .words)) (now (a .ticks)) (a .count) (a .end) (a .head) (at .state) (at .clock) (at .i) (at .inv))
+    omega (arith, running-ends (at .inv))
 
 pass-requires : tie.Need-pass-requires Inv-loop μ-loop
 pass-requires c κs = search needs
@@ -76,7 +76,7 @@ returns c =
     let a = c .before .before .before .before .before .args in
     let at = c .before .before .loop in
     let all : a .count ≤ at .i = omega arith in
-    running-last (now (a .words)) (now (a .ticks)) (a .count) (a .end) (a .head) (at .state) (at .clock) (at .i) (at .inv) all (c .pass .result) (c .pass .ensures)
+    running-last (at .inv) all (c .pass .ensures)
 
 pub run-words-spec : {M : Type 1} → statement M
 run-words-spec =
