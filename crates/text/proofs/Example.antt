@@ -1,0 +1,30 @@
+-- Document 01, "Examples": the text of its listing, whole.
+-- Assumes nothing.
+use mathlib.Core.Path.{_≡_, refl}
+use mathlib.Core.List.{[], _∷_}
+use Rattle.words.specs.Kinds.{rows, kindFrom, kindOf, kinds, least, greatest, allowed}
+use Rattle.words.specs.Codec.{decodeOf, judged, wordOf}
+use Rattle.head.specs.Limits.{lengthOf, readoutOf}
+use Rattle.head.specs.Range.{all, registerTests, latchTests, motionTests, place, begunTests, workInRange, inRange}
+use Rattle.head.specs.Apply.{after, actOf}
+use Rattle.head.specs.Word.{outOfTurn, onWord, onDecoded, answerOf}
+use Rattle.head.specs.Tick.{tickOf, ticksOf, passed}
+use Rattle.plan.specs.Codes.{countOf, widthOf, known, lengthOf as orderLength, within, related, fieldsFit}
+use Rattle.plan.specs.Stored.{fieldAt, orderAt, faultAt, ordersFrom, planOf}
+use Rattle.plan.specs.Words.{sineRegister, wordsOf, itemsOf, itemsOfAll}
+use Rattle.schedule.specs.Earliest.{atRest, isTaken, ready, delayWithin, delayOf}
+use Rattle.schedule.specs.Schedule.{readied, spanOf, sent, scheduleFrom}
+use Rattle.schedule.specs.Translate.{fit, scheduleOf, answerOfPlan, translateOf}
+use Rattle.text.specs.Numbers.{ascii, decimalWithin, decimalOf, hexDigit, hexOf}
+use Rattle.text.specs.Lines.{headLine, wordLine, wordLines, endLine}
+use Rattle.text.specs.Listing.{listingOf, answerText, printedFor}
+
+pub example-listed : printedFor (0x01 ∷ 0x00 ∷ 0x0A ∷ 0x05 ∷ 0x0C ∷ 0xFF ∷ 0x00 ∷ 0x0F ∷ 0xF8 ∷ 0x01 ∷ 0x0F ∷ 0x01 ∷ 0x10 ∷ [])
+    ≡ ascii "tick word\n0 2011\n1 A000\n2 600F\n3 E0F8\n33 8000\n191 4000\nend 194\n"
+unfolding printedFor answerText listingOf headLine wordLines wordLine endLine ascii decimalOf decimalWithin hexOf hexDigit
+    translateOf answerOfPlan fit scheduleOf scheduleFrom readied spanOf sent ready atRest isTaken delayOf delayWithin
+    planOf ordersFrom faultAt orderAt fieldAt countOf widthOf known orderLength fieldsFit within related
+    itemsOfAll itemsOf wordsOf sineRegister answerOf onDecoded onWord outOfTurn after actOf tickOf ticksOf passed
+    inRange all registerTests latchTests motionTests place begunTests workInRange lengthOf readoutOf
+    decodeOf judged kindOf kindFrom kinds rows least greatest allowed wordOf
+example-listed = refl

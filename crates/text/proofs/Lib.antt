@@ -1,0 +1,5 @@
+pub mod Digits
+pub mod Laying
+pub mod Printing
+pub mod Ways
+pub mod Example

@@ -1,0 +1,50 @@
+-- `text::lines::put_refusal_line` meets its contract: its three parts are laid one after another.
+-- Assumes nothing.
+use native.Mathlib.Omega.{arith}
+use Rattle.text.specs.Numbers.{ascii}
+use Rattle.text.specs.Lines.{refusalLine}
+use Rattle.text.proofs.Laying.{laid-then}
+use borrow.Author.Needs.{needs}
+use Rattle.text.proofs.lines.put_refusal_line.Statement.{statement}
+use Rattle.text.proofs.lines.put_refusal_line.Tie as tie
+
+slice-aggregate-put-named : tie.Need-slice-aggregate-put-named
+slice-aggregate-put-named c = search needs
+
+put-named-requires : tie.Need-put-named-requires
+put-named-requires c κs = search needs
+
+slice-aggregate-put-named-2 : tie.Need-slice-aggregate-put-named-2
+slice-aggregate-put-named-2 c = search needs
+
+put-named-requires-2 : tie.Need-put-named-requires-2
+put-named-requires-2 c κs = search needs
+
+slice-aggregate-put-bytes : tie.Need-slice-aggregate-put-bytes
+slice-aggregate-put-bytes c = search needs
+
+put-bytes-requires : tie.Need-put-bytes-requires
+put-bytes-requires c κs = search needs
+
+same-length : tie.Need-same-length
+same-length c = search needs
+
+returns : tie.Need-returns
+unfolding refusalLine ascii
+returns c =
+    let number = c .before .before .before .before .before .before .before .before .before .before .before .before .put-named .ensures .0 in
+    let place = c .before .before .before .before .before .before .before .put-named2 .ensures .0 in
+    (laid-then (laid-then number place) (c .before .before .put-bytes .ensures), omega arith)
+
+pub put-refusal-line-spec : {M : Type 1} → statement M
+put-refusal-line-spec =
+    tie.close
+    (tie.spec
+    slice-aggregate-put-named
+    put-named-requires
+    slice-aggregate-put-named-2
+    put-named-requires-2
+    slice-aggregate-put-bytes
+    put-bytes-requires
+    same-length
+    returns)

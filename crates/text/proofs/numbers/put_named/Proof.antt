@@ -1,0 +1,22 @@
+-- `text::numbers::put_named` meets its contract: the name, then the number.
+-- Assumes nothing.
+use native.Mathlib.Omega.{arith}
+use Rattle.text.proofs.Laying.{laid-then}
+use borrow.Author.Needs.{needs}
+use Rattle.text.proofs.numbers.put_named.Statement.{statement}
+use Rattle.text.proofs.numbers.put_named.Tie as tie
+
+put-bytes-requires : tie.Need-put-bytes-requires
+put-bytes-requires c κs = search needs
+
+put-decimal-requires : tie.Need-put-decimal-requires
+put-decimal-requires c κs = search needs
+
+same-length : tie.Need-same-length
+same-length c = search needs
+
+returns : tie.Need-returns
+returns c = (laid-then (c .before .before .before .before .before .before .put-bytes .ensures) (c .before .before .put-decimal .ensures .0), omega arith)
+
+pub put-named-spec : {M : Type 1} → statement M
+put-named-spec = tie.close (tie.spec put-bytes-requires put-decimal-requires same-length returns)

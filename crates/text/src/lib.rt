@@ -1,0 +1,4 @@
+// The text that the listing program prints (document 01, "Examples").
+pub mod lines;
+pub mod listing;
+pub mod numbers;
