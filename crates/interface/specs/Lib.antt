@@ -1,0 +1,3 @@
+pub mod State
+pub mod Stepping
+pub mod Codec

@@ -1,0 +1,59 @@
+-- What the exported functions over a state answer, and the array that they leave. An array that is not well formed is refused with 21
+-- and left as it was given.
+-- Assumes nothing.
+use Prim.Native.Nat.{ℕ, _+_, _*_}
+use mathlib.Core.Bool.{cond, _&&_}
+use mathlib.Core.List.{List}
+use lib.Dec.{eqb}
+use lib.ListN.{length}
+use Rattle.head.specs.State.{powerOn}
+use Rattle.head.specs.Range.{inRange}
+use Rattle.head.specs.Word.{answerOf}
+use Rattle.head.specs.Tick.{tickOf}
+use Rattle.head.specs.Numbers.{outcomeNumber}
+use Rattle.head.specs.declared.state.Flags.{Flags}
+use Rattle.head.specs.declared.tick.Due.{Due}
+use Rattle.head.specs.declared.tick.Due.the-variants.{Nothing, Blocks, Refused}
+use Rattle.interface.specs.State.{places, bitOf, taskNumber, numbersOf, stateOf, wellFormed}
+
+-- Document 01's number for a state outside its ranges.
+abbrev pub stateRefused : ℕ
+stateRefused = 21
+
+-- The power-on state is written to an array of 35 places.
+unfoldable pub powerOnAnswer : List ℕ → ℕ
+powerOnAnswer l = cond (eqb (length l) places) 0 stateRefused
+
+unfoldable pub powerOnState : List ℕ → List ℕ
+powerOnState l = cond (eqb (length l) places) (numbersOf powerOn) l
+
+unfoldable pub rangeAnswer : List ℕ → ℕ
+rangeAnswer l = cond (wellFormed l && inRange (stateOf l)) 0 stateRefused
+
+-- A word's answer is the number of its outcome.
+unfoldable pub wordAnswer : List ℕ → ℕ → ℕ
+wordAnswer l w = cond (wellFormed l) (outcomeNumber (answerOf (stateOf l) w .outcome)) stateRefused
+
+unfoldable pub wordState : List ℕ → ℕ → List ℕ
+wordState l w = cond (wellFormed l) (numbersOf (answerOf (stateOf l) w .head)) l
+
+-- The five flags as bits: IR time, IR word, scan, VIS time, VIS word.
+unfoldable pub flagBits : Flags → ℕ
+flagBits f =
+    bitOf (f .irtime)
+    + 2 * bitOf (f .irword)
+    + 4 * bitOf (f .scan)
+    + 8 * bitOf (f .vistime)
+    + 16 * bitOf (f .visword)
+
+-- Nothing due is 0. Blocks due: the task that ended in the low eight bits, the flags that they show from bit 8 on.
+unfoldable pub dueAnswer : Due → ℕ
+dueAnswer Nothing = 0
+dueAnswer (Blocks t f) = taskNumber t + 256 * flagBits f
+dueAnswer Refused = stateRefused
+
+unfoldable pub tickAnswer : List ℕ → ℕ
+tickAnswer l = cond (wellFormed l) (dueAnswer (tickOf (stateOf l) .due)) stateRefused
+
+unfoldable pub tickState : List ℕ → List ℕ
+tickState l = cond (wellFormed l) (numbersOf (tickOf (stateOf l) .head)) l
