@@ -1,2 +1,4 @@
 pub mod Storing
 pub mod RoundTrip
+pub mod Numbers
+pub mod Ways

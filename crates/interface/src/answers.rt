@@ -1,0 +1,95 @@
+// The numbers that the exported functions answer.
+use crate::state::task_number;
+use head::state::Flags;
+use head::state::Task;
+use head::word::Act;
+use head::word::Cause;
+use head::word::Outcome;
+use words::Decoded;
+use words::Encoded;
+ghost use mathlib.Core.Path.{_≡_};
+ghost use Prim.Native.Nat.{_+_, _*_, _≤_};
+ghost use Rattle.head.specs.Numbers.{actNumber, causeNumber, outcomeNumber};
+ghost use Rattle.interface.specs.State.{bitOf, taskNumber};
+ghost use Rattle.interface.specs.Stepping.{flagBits};
+ghost use Rattle.interface.specs.Codec.{decodedAnswer, encodedAnswer};
+
+// Document 01's number for a state outside its ranges.
+pub const STATE_REFUSED: u32 = 21;
+
+fn act_number(act: Act) -> u32
+    ensures { λ r. ⌜ r ≡ actNumber act ⌝ }
+{
+    match act {
+        Act::None => 0,
+        Act::Exposure => 1,
+        Act::Request => 2,
+        Act::Cover(bits) => 0x1000 + bits as u32,
+    }
+}
+
+fn cause_number(cause: Cause) -> u32
+    ensures { λ r. ⌜ r ≡ causeNumber cause ⌝ }
+{
+    match cause {
+        Cause::State => STATE_REFUSED,
+        Cause::Busy => 22,
+        Cause::CoverMoving => 22,
+        Cause::UnknownWord => 23,
+        Cause::Range => 24,
+        Cause::Turn => 25,
+    }
+}
+
+pub fn outcome_number(outcome: Outcome) -> u32
+    ensures { λ r. ⌜ r ≡ outcomeNumber outcome ⌝ }
+{
+    match outcome {
+        Outcome::Taken(act) => act_number(act),
+        Outcome::Ignored(cause) => cause_number(cause),
+    }
+}
+
+fn wide_bit(b: bool) -> u32
+    ensures { λ r. ⌜ r ≡ bitOf b ⌝ }
+    ensures { λ r. ⌜ r ≤ 1 ⌝ }
+{
+    if b { 1 } else { 0 }
+}
+
+// The flags as bits: IR time, IR word, scan, VIS time, VIS word.
+fn flag_bits(flags: Flags) -> u32
+    ensures { λ r. ⌜ r ≡ flagBits flags ⌝ }
+    ensures { λ r. ⌜ r ≤ 31 ⌝ }
+{
+    wide_bit(flags.irtime)
+        + 2 * wide_bit(flags.irword)
+        + 4 * wide_bit(flags.scan)
+        + 8 * wide_bit(flags.vistime)
+        + 16 * wide_bit(flags.visword)
+}
+
+pub fn blocks_number(ended: Task, flags: Flags) -> u32
+    ensures { λ r. ⌜ r ≡ taskNumber ended + 256 * flagBits flags ⌝ }
+{
+    task_number(ended) as u32 + 256 * flag_bits(flags)
+}
+
+pub fn decoded_number(found: Decoded) -> u32
+    ensures { λ r. ⌜ r ≡ decodedAnswer found ⌝ }
+{
+    match found {
+        Decoded::Word { kind, bits } => kind as u32 * 0x10000 + bits as u32,
+        Decoded::Unknown => 23 * 0x1000000,
+        Decoded::OutOfRange { kind } => 24 * 0x1000000 + kind as u32 * 0x10000,
+    }
+}
+
+pub fn encoded_number(made: Encoded) -> u32
+    ensures { λ r. ⌜ r ≡ encodedAnswer made ⌝ }
+{
+    match made {
+        Encoded::Made(word) => word as u32,
+        Encoded::Refused => 24 * 0x1000000,
+    }
+}
