@@ -2,3 +2,4 @@ pub mod Storing
 pub mod RoundTrip
 pub mod Numbers
 pub mod Ways
+pub mod Translation

@@ -1,3 +1,4 @@
 pub mod State
 pub mod Stepping
 pub mod Codec
+pub mod Plans

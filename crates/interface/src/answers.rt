@@ -5,17 +5,24 @@ use head::state::Task;
 use head::word::Act;
 use head::word::Cause;
 use head::word::Outcome;
+use schedule::Translated;
 use words::Decoded;
 use words::Encoded;
 ghost use mathlib.Core.Path.{_≡_};
-ghost use Prim.Native.Nat.{_+_, _*_, _≤_};
+ghost use Prim.Native.Nat.{_+_, _*_, _≤_, _<_, _^_};
 ghost use Rattle.head.specs.Numbers.{actNumber, causeNumber, outcomeNumber};
 ghost use Rattle.interface.specs.State.{bitOf, taskNumber};
 ghost use Rattle.interface.specs.Stepping.{flagBits};
+ghost use Rattle.interface.specs.Plans.{packed, Small, translatedAnswer};
 ghost use Rattle.interface.specs.Codec.{decodedAnswer, encodedAnswer};
 
 // Document 01's number for a state outside its ranges.
 pub const STATE_REFUSED: u32 = 21;
+
+// For a plan: a state that is out of range, busy or moving; a buffer that is too short.
+pub const PLAN_STATE: u64 = 1;
+
+pub const PLAN_SHORT: u8 = 10;
 
 fn act_number(act: Act) -> u32
     ensures { λ r. ⌜ r ≡ actNumber act ⌝ }
@@ -91,5 +98,23 @@ pub fn encoded_number(made: Encoded) -> u32
     match made {
         Encoded::Made(word) => word as u32,
         Encoded::Refused => 24 * 0x1000000,
+    }
+}
+
+fn packed(number: u8, count: usize, last: usize) -> u64
+    requires { ⌜ (count < 2 ^ 16) × (last < 2 ^ 32) ⌝ }
+    ensures { λ r. ⌜ r ≡ packed number count last ⌝ }
+{
+    number as u64 + 0x100 * count as u64 + 0x1_0000_0000 * last as u64
+}
+
+pub(crate) fn translated_number(translated: Translated) -> u64
+    requires { ⌜ Small translated ⌝ }
+    ensures { λ r. ⌜ r ≡ translatedAnswer translated ⌝ }
+{
+    match translated {
+        Translated::Done { count, end } => packed(0, count, end as usize),
+        Translated::Refused { number, place } => packed(number, 0, place),
+        Translated::Short { count } => packed(PLAN_SHORT, count, 0),
     }
 }

@@ -5,9 +5,15 @@ pub mod state;
 
 use head::state::Head;
 use head::tick::Due;
+use schedule::translate::translate;
 use state::PLACES;
 ghost use mathlib.Core.Path.{_≡_};
+ghost use lib.ListN.{length};
 ghost use Rattle.words.specs.Codec.{decodeOf, encodeOf};
+ghost use Rattle.plan.specs.Stored.{planOf};
+ghost use Rattle.schedule.specs.Translate.{scheduleOf, filled, wordList, tickList};
+ghost use Rattle.interface.specs.State.{stateOf};
+ghost use Rattle.interface.specs.Plans.{translatedOf, translatedAnswer};
 ghost use Rattle.interface.specs.Stepping.{powerOnAnswer, powerOnState, rangeAnswer, wordAnswer, wordState, tickAnswer, tickState};
 ghost use Rattle.interface.specs.Codec.{decodedAnswer, encodedAnswer};
 
@@ -90,4 +96,23 @@ pub extern "C" fn shabgozim_encode(kind: u8, bits: u16) -> u32
     ensures { λ r. ⌜ r ≡ encodedAnswer (encodeOf kind bits) ⌝ }
 {
     answers::encoded_number(words::encode(kind, bits))
+}
+
+// Translates a stored plan for the head in this state.
+#[no_mangle]
+pub extern "C" fn shabgozim_translate(
+    state: &[u16],
+    plan: &[u8],
+    words: &mut [u16],
+    ticks: &mut [u32],
+) -> u64
+    ensures { λ r. ⌜ r ≡ translatedAnswer (translatedOf (now (state .entry)) (now (plan .entry)) (length (now (words .entry))) (length (now (ticks .entry)))) ⌝ }
+    ensures { λ _. ⌜ now (words .exit) ≡ filled (translatedOf (now (state .entry)) (now (plan .entry)) (length (now (words .entry))) (length (now (ticks .entry)))) (wordList (scheduleOf (stateOf (now (state .entry))) (planOf (now (plan .entry))))) (now (words .entry)) ⌝ }
+    ensures { λ _. ⌜ now (ticks .exit) ≡ filled (translatedOf (now (state .entry)) (now (plan .entry)) (length (now (words .entry))) (length (now (ticks .entry)))) (tickList (scheduleOf (stateOf (now (state .entry))) (planOf (now (plan .entry))))) (now (ticks .entry)) ⌝ }
+{
+    if !state::well_formed(state) {
+        return answers::PLAN_STATE;
+    }
+    let translated = translate(state::load(state), plan, words, ticks);
+    answers::translated_number(translated)
 }
