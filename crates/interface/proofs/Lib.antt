@@ -1,5 +1,8 @@
 pub mod Storing
+pub mod Groups
 pub mod RoundTrip
 pub mod Numbers
 pub mod Ways
 pub mod Translation
+pub mod Writing
+pub mod Reading

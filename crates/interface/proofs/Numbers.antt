@@ -14,6 +14,10 @@ use Rattle.head.specs.declared.word.Act.the-variants.{Cover}
 use Rattle.head.specs.declared.word.Cause.{Cause}
 use Rattle.head.specs.declared.word.Outcome.{Outcome}
 use Rattle.head.specs.declared.word.Outcome.the-variants.{Taken, Ignored}
+use Rattle.blocks.specs.Numbers.{refusalNumber, refusalPlace, writtenNumber}
+use Rattle.blocks.specs.declared.refusal.Refusal.{Refusal}
+use Rattle.blocks.specs.declared.written.Written.{Written}
+use Rattle.blocks.specs.declared.written.Written.the-variants.{Refused}
 use Rattle.interface.specs.Codec.{decodedAnswer, encodedAnswer}
 
 pub cover-number : (a : Act) (b : ℕ) → a ≡ Cover b → 0x1000 + b ≡ actNumber a
@@ -41,3 +45,7 @@ module _ (d : Decoded) (k : ℕ) where
 pub made-number : (e : Encoded) (w : ℕ) → e ≡ Made w → w ≡ encodedAnswer e
 unfolding encodedAnswer encodedNumber
 made-number m w e = rw e (omega arith)
+
+pub refused-written : (w : Written) (f : Refusal) (r : ℕ) → w ≡ Refused f → r ≡ refusalNumber f → r ≡ writtenNumber w
+unfolding writtenNumber
+refused-written w f r e is = rw e is

@@ -1,15 +1,13 @@
--- Numbers stored one after another, and a state's three groups of numbers stored one after another.
+-- Numbers stored one after another in an array.
 -- Assumes nothing.
 use mathlib.Core.Path.{_≡_, refl, sym, _∙_, ap}
-use mathlib.Core.List.{List, [], _∷_, _++_}
+use mathlib.Core.List.{List, [], _∷_, _++_, append-assoc, append-nil}
 use Prim.Native.Nat.{ℕ, zero, suc, _+_, _<_, _≤_}
 use native.Mathlib.Nat.{add-suc, add-zero}
 use native.Mathlib.Numerals.{add-one}
 use native.Mathlib.Omega.{arith}
-use lib.ListN.{length, getD, drop, set, drop-of-length-le}
-use lib.Seq.{drop-cons, sets}
-use Rattle.head.specs.declared.state.Head.{Head}
-use Rattle.interface.specs.State.{places, registerNumbers, activityNumbers, begunNumbers, numbersOf}
+use lib.ListN.{length, getD, drop, set, drop-of-length-le, length-append, length-drop}
+use lib.Seq.{drop-cons, sets, append-snoc, set-append-seam}
 
 -- a list by its n elements from place k on
 abbrev pub elements : ℕ → ℕ → List ℕ → List ℕ
@@ -38,10 +36,30 @@ module _ (whole l ns : List ℕ) (at i : ℕ) (left : whole ≡ sets l (at + i) 
 pub put-these : (all l ns ms : List ℕ) (at : ℕ) → all ≡ sets l at ns → ns ≡ ms → all ≡ sets l at ms
 put-these all l ns ms at e is = e ∙ rw is
 
--- the three groups one after another are the whole state, whatever the array held
-pub stored : (s : Head) (l first middle all registers last : List ℕ) → length l ≡ places
-    → registers ≡ registerNumbers (s .settings) (s .latches) → last ≡ begunNumbers (s .begun)
-    → first ≡ sets l 0 registers → middle ≡ sets first 22 (activityNumbers (s .flags) (s .work) (s .motion)) → all ≡ sets middle 31 last
-    → all ≡ numbersOf s
-unfolding numbersOf
-stored s l first middle all registers last h r g e₁ e₂ e₃ = rw (e₃, e₂, e₁, r, g, listed l 35 h)
+-- numbers stored after a front, and in all of an array
+sets-after : (vs p q : List ℕ) → length vs ≤ length q → sets (p ++ q) (length p) vs ≡ p ++ (vs ++ drop (length vs) q)
+sets-after [] p q h = refl
+sets-after (v ∷ vs) p [] h = absurd (omega arith)
+sets-after (v ∷ vs) p (y ∷ ys) h =
+    let one : length (p ++ (v ∷ [])) ≡ suc (length p) = length-append p (v ∷ []) ∙ add-one (length p) in
+    rw (set-append-seam p y ys v, ← append-snoc p v ys, ← one, sets-after vs (p ++ (v ∷ [])) ys (omega arith))
+    (append-snoc p v (vs ++ drop (length vs) ys))
+
+pub sets-whole : (after l vs ws : List ℕ) → after ≡ sets l 0 ws → ws ≡ vs → length vs ≡ length l → after ≡ vs
+sets-whole after l vs ws e is h =
+    e ∙ rw is (sets-after vs [] l (omega arith) ∙ rw (drop-of-length-le l {i = length vs} (omega arith), append-nil vs))
+
+-- three groups one after another fill an array that has room for just these
+three : (l a b c : List ℕ) → length l ≡ length a + length b + length c
+    → sets (sets (sets l 0 a) (length a) b) (length a + length b) c ≡ a ++ (b ++ c)
+three l a b c h =
+    let d : List ℕ = drop (length b) (drop (length a) l) in
+    let left : length d ≡ length c = simp length-drop (omega arith) in
+    rw (sets-after a [] l (omega arith), sets-after b a (drop (length a) l) (simp length-drop (omega arith)))
+    (rw (← append-assoc a b d, ← length-append a b, sets-after c (a ++ b) d (omega arith), drop-of-length-le d {i = length c} (omega arith), append-nil c, append-assoc a b c))
+
+-- x, y and z are the groups as they were made
+module _ (l first middle all a b c x y z : List ℕ) (ea : x ≡ a) (eb : y ≡ b) (ec : z ≡ c) where
+  pub three-groups : length l ≡ length a + length b + length c
+      → first ≡ sets l 0 x → middle ≡ sets first (length a) y → all ≡ sets middle (length a + length b) z → all ≡ a ++ (b ++ c)
+  three-groups h e₁ e₂ e₃ = rw (e₃, e₂, e₁, ea, eb, ec) (three l a b c h)

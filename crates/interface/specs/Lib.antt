@@ -2,3 +2,4 @@ pub mod State
 pub mod Stepping
 pub mod Codec
 pub mod Plans
+pub mod Blocks

@@ -1,5 +1,7 @@
 // The numbers that the exported functions answer.
 use crate::state::task_number;
+use blocks::refusal::Refusal;
+use blocks::written::Written;
 use head::state::Flags;
 use head::state::Task;
 use head::word::Act;
@@ -11,6 +13,8 @@ use words::Encoded;
 ghost use mathlib.Core.Path.{_≡_};
 ghost use Prim.Native.Nat.{_+_, _*_, _≤_, _<_, _^_};
 ghost use Rattle.head.specs.Numbers.{actNumber, causeNumber, outcomeNumber};
+ghost use Rattle.blocks.specs.Numbers.{refusalNumber, refusalPlace, writtenNumber};
+ghost use Rattle.interface.specs.Blocks.{refusalAnswer, mostPlace};
 ghost use Rattle.interface.specs.State.{bitOf, taskNumber};
 ghost use Rattle.interface.specs.Stepping.{flagBits};
 ghost use Rattle.interface.specs.Plans.{packed, Small, translatedAnswer};
@@ -18,6 +22,9 @@ ghost use Rattle.interface.specs.Codec.{decodedAnswer, encodedAnswer};
 
 // Document 01's number for a state outside its ranges.
 pub const STATE_REFUSED: u32 = 21;
+
+// For a buffer that has not a block's length, or readings that are not so many.
+pub const LENGTH_REFUSED: u32 = 11;
 
 // For a plan: a state that is out of range, busy or moving; a buffer that is too short.
 pub const PLAN_STATE: u64 = 1;
@@ -117,4 +124,45 @@ pub(crate) fn translated_number(translated: Translated) -> u64
         Translated::Refused { number, place } => packed(number, 0, place),
         Translated::Short { count } => packed(PLAN_SHORT, count, 0),
     }
+}
+
+fn refusal_number(refusal: Refusal) -> u32
+    ensures { λ r. ⌜ r ≡ refusalNumber refusal ⌝ }
+    ensures { λ r. ⌜ r ≤ 21 ⌝ }
+{
+    match refusal {
+        Refusal::Length => LENGTH_REFUSED,
+        Refusal::State => STATE_REFUSED,
+        Refusal::FixedBit { place: _ } => 12,
+        Refusal::OutOfRange { place: _ } => 13,
+    }
+}
+
+pub fn written_number(written: Written) -> u32
+    ensures { λ r. ⌜ r ≡ writtenNumber written ⌝ }
+{
+    match written {
+        Written::Done => 0,
+        Written::Refused(refusal) => refusal_number(refusal),
+    }
+}
+
+fn refusal_place(refusal: Refusal) -> usize
+    ensures { λ r. ⌜ r ≡ refusalPlace refusal ⌝ }
+{
+    match refusal {
+        Refusal::Length => 0,
+        Refusal::State => 0,
+        Refusal::FixedBit { place } => place,
+        Refusal::OutOfRange { place } => place,
+    }
+}
+
+// The number of a refused block, and the place above it.
+pub(crate) fn refused_number(refusal: Refusal) -> u32
+    requires { ⌜ refusalPlace refusal ≤ mostPlace ⌝ }
+    ensures { λ r. ⌜ r ≡ refusalAnswer refusal ⌝ }
+{
+    let place = refusal_place(refusal) as u32;
+    refusal_number(refusal) + 0x100 * place
 }

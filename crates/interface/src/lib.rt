@@ -1,8 +1,19 @@
 // The C interface of the library (include/shabgozim.h). A state of the head crosses it as an array of 35 16-bit numbers. Every
 // length is judged here, and none is trusted.
 pub mod answers;
+pub mod readings;
 pub mod state;
 
+use blocks::ccd::CCD_READINGS;
+use blocks::ccd::CCD_WORDS;
+use blocks::ccd::CcdAnswer;
+use blocks::ccd::read_ccd;
+use blocks::ccd::write_ccd;
+use blocks::ir::IR_READINGS;
+use blocks::ir::IR_WORDS;
+use blocks::ir::IrAnswer;
+use blocks::ir::read_ir;
+use blocks::ir::write_ir;
 use head::state::Head;
 use head::tick::Due;
 use schedule::translate::translate;
@@ -12,6 +23,11 @@ ghost use lib.ListN.{length};
 ghost use Rattle.words.specs.Codec.{decodeOf, encodeOf};
 ghost use Rattle.plan.specs.Stored.{planOf};
 ghost use Rattle.schedule.specs.Translate.{scheduleOf, filled, wordList, tickList};
+ghost use Rattle.blocks.specs.Numbers.{writtenNumber};
+ghost use Rattle.blocks.specs.Written.{bufferAfter};
+ghost use Rattle.blocks.specs.Ir.{irWords, irReadings};
+ghost use Rattle.blocks.specs.Ccd.{ccdWords, ccdReadings};
+ghost use Rattle.interface.specs.Blocks.{blockWritten, irBlockFor, ccdBlockFor, irAnswer, irReadFor, irNumbersAfter, ccdAnswer, ccdReadFor, ccdNumbersAfter};
 ghost use Rattle.interface.specs.State.{stateOf};
 ghost use Rattle.interface.specs.Plans.{translatedOf, translatedAnswer};
 ghost use Rattle.interface.specs.Stepping.{powerOnAnswer, powerOnState, rangeAnswer, wordAnswer, wordState, tickAnswer, tickState};
@@ -115,4 +131,104 @@ pub extern "C" fn shabgozim_translate(
     }
     let translated = translate(state::load(state), plan, words, ticks);
     answers::translated_number(translated)
+}
+
+// Writes the IR block of a state.
+#[no_mangle]
+pub extern "C" fn shabgozim_write_ir(
+    state: &[u16],
+    flags: u32,
+    ended: u32,
+    bits: u32,
+    readings: &[u16],
+    block: &mut [u16],
+) -> u32
+    ensures { λ r. ⌜ r ≡ writtenNumber (blockWritten irWords irReadings (now (state .entry)) (now (readings .entry)) (now (block .entry))) ⌝ }
+    ensures { λ _. ⌜ now (block .exit) ≡ bufferAfter (blockWritten irWords irReadings (now (state .entry)) (now (readings .entry)) (now (block .entry))) (irBlockFor (now (state .entry)) flags ended bits (now (readings .entry))) (now (block .entry)) ⌝ }
+{
+    if readings.len() != IR_READINGS {
+        return answers::LENGTH_REFUSED;
+    }
+    if block.len() != IR_WORDS {
+        return answers::LENGTH_REFUSED;
+    }
+    if !state::well_formed(state) {
+        return answers::STATE_REFUSED;
+    }
+    let head = state::load(state);
+    let shown = readings::flags_in(flags);
+    let given = readings::ir_readings(readings);
+    let said = readings::ir_bits_in(bits);
+    answers::written_number(write_ir(head, shown, ended == 1, given, said, block))
+}
+
+// Writes the CCD block of a state.
+#[no_mangle]
+pub extern "C" fn shabgozim_write_ccd(
+    state: &[u16],
+    flags: u32,
+    ended: u32,
+    bits: u32,
+    readings: &[u16],
+    block: &mut [u16],
+) -> u32
+    ensures { λ r. ⌜ r ≡ writtenNumber (blockWritten ccdWords ccdReadings (now (state .entry)) (now (readings .entry)) (now (block .entry))) ⌝ }
+    ensures { λ _. ⌜ now (block .exit) ≡ bufferAfter (blockWritten ccdWords ccdReadings (now (state .entry)) (now (readings .entry)) (now (block .entry))) (ccdBlockFor (now (state .entry)) flags ended bits (now (readings .entry))) (now (block .entry)) ⌝ }
+{
+    if readings.len() != CCD_READINGS {
+        return answers::LENGTH_REFUSED;
+    }
+    if block.len() != CCD_WORDS {
+        return answers::LENGTH_REFUSED;
+    }
+    if !state::well_formed(state) {
+        return answers::STATE_REFUSED;
+    }
+    let head = state::load(state);
+    let shown = readings::flags_in(flags);
+    let given = readings::ccd_readings(readings);
+    let said = readings::ccd_bits_in(bits);
+    answers::written_number(write_ccd(head, shown, ended == 1, given, said, block))
+}
+
+// Reads an IR block into numbers.
+#[no_mangle]
+pub extern "C" fn shabgozim_read_ir(block: &[u16], numbers: &mut [u16]) -> u32
+    ensures { λ r. ⌜ r ≡ irAnswer (irReadFor (now (block .entry)) (now (numbers .entry))) ⌝ }
+    ensures { λ _. ⌜ now (numbers .exit) ≡ irNumbersAfter (irReadFor (now (block .entry)) (now (numbers .entry))) (now (block .entry)) (now (numbers .entry)) ⌝ }
+{
+    if numbers.len() != readings::IR_NUMBERS {
+        return answers::LENGTH_REFUSED;
+    }
+    let read = read_ir(block);
+    let answer = read.answer;
+    let first = read.readings;
+    match answer {
+        IrAnswer::Block(meaning) => {
+            readings::put_ir(numbers, &first, meaning);
+            0
+        }
+        IrAnswer::Refused(refusal) => answers::refused_number(refusal),
+    }
+}
+
+// Reads a CCD block into numbers.
+#[no_mangle]
+pub extern "C" fn shabgozim_read_ccd(block: &[u16], numbers: &mut [u16]) -> u32
+    ensures { λ r. ⌜ r ≡ ccdAnswer (ccdReadFor (now (block .entry)) (now (numbers .entry))) ⌝ }
+    ensures { λ _. ⌜ now (numbers .exit) ≡ ccdNumbersAfter (ccdReadFor (now (block .entry)) (now (numbers .entry))) (now (block .entry)) (now (numbers .entry)) ⌝ }
+{
+    if numbers.len() != readings::CCD_NUMBERS {
+        return answers::LENGTH_REFUSED;
+    }
+    let read = read_ccd(block);
+    let answer = read.answer;
+    let first = read.readings;
+    match answer {
+        CcdAnswer::Block(meaning) => {
+            readings::put_ccd(numbers, &first, meaning);
+            0
+        }
+        CcdAnswer::Refused(refusal) => answers::refused_number(refusal),
+    }
 }

@@ -174,7 +174,7 @@ fn begun_numbers(begun: Begun) -> [u16; 4]
 }
 
 // Copies the numbers into the array from a place on.
-fn put(s: &mut [u16], at: usize, numbers: &[u16])
+pub(crate) fn put(s: &mut [u16], at: usize, numbers: &[u16])
     requires { ⌜ at + length (now numbers) ≤ length (now s) ⌝ }
     ensures { λ _. ⌜ now (s .exit) ≡ sets (now (s .entry)) at (now (numbers .entry)) ⌝ }
 {

@@ -1,6 +1,6 @@
 -- `interface::state::store` meets its contract.
 -- Assumes nothing.
-use Rattle.interface.proofs.Storing.{stored}
+use Rattle.interface.proofs.Groups.{state-stored}
 use borrow.Author.Needs.{needs}
 use Rattle.interface.proofs.state.store.Statement.{statement}
 use Rattle.interface.proofs.state.store.Tie as tie
@@ -30,7 +30,7 @@ same-length : tie.Need-same-length
 same-length c = search needs
 
 returns : tie.Need-returns
-returns c = search (needs, stored)
+returns c = search (needs, state-stored)
 
 pub store-spec : {M : Type 1} → statement M
 store-spec =

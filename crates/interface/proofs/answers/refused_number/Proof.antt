@@ -1,0 +1,36 @@
+-- `interface::answers::refused_number` meets its contract.
+-- Assumes nothing.
+use Rattle.interface.specs.Blocks.{refusalAnswer}
+use borrow.Author.Needs.{needs}
+use Rattle.interface.proofs.answers.refused_number.Statement.{statement}
+use Rattle.interface.proofs.answers.refused_number.Tie as tie
+
+refusal-place-requires : tie.Need-refusal-place-requires
+refusal-place-requires c κs = search needs
+
+cast-place : tie.Need-cast-place
+cast-place c = search needs
+
+refusal-number-requires : tie.Need-refusal-number-requires
+refusal-number-requires c κs = search needs
+
+mul-result : tie.Need-mul-result
+mul-result c = search needs
+
+add-result : tie.Need-add-result
+add-result c = search needs
+
+returns : tie.Need-returns
+unfolding refusalAnswer
+returns c = cc
+
+pub refused-number-spec : {M : Type 1} → statement M
+refused-number-spec =
+    tie.close
+    (tie.spec
+    refusal-place-requires
+    cast-place
+    refusal-number-requires
+    mul-result
+    add-result
+    returns)

@@ -1,0 +1,54 @@
+-- `interface::readings::ir_flag_numbers` meets its contract.
+-- Assumes nothing.
+use borrow.Author.Needs.{needs}
+use Rattle.interface.proofs.readings.ir_flag_numbers.Statement.{statement}
+use Rattle.interface.proofs.readings.ir_flag_numbers.Tie as tie
+
+bit-requires : tie.Need-bit-requires
+bit-requires c κs = search needs
+
+bit-requires-2 : tie.Need-bit-requires-2
+bit-requires-2 c κs = search needs
+
+bit-requires-3 : tie.Need-bit-requires-3
+bit-requires-3 c κs = search needs
+
+bit-requires-4 : tie.Need-bit-requires-4
+bit-requires-4 c κs = search needs
+
+bit-requires-5 : tie.Need-bit-requires-5
+bit-requires-5 c κs = search needs
+
+bit-requires-6 : tie.Need-bit-requires-6
+bit-requires-6 c κs = search needs
+
+bit-requires-7 : tie.Need-bit-requires-7
+bit-requires-7 c κs = search needs
+
+bit-requires-8 : tie.Need-bit-requires-8
+bit-requires-8 c κs = search needs
+
+bit-requires-9 : tie.Need-bit-requires-9
+bit-requires-9 c κs = search needs
+
+bit-requires-10 : tie.Need-bit-requires-10
+bit-requires-10 c κs = search needs
+
+returns : tie.Need-returns
+returns c = cc
+
+pub ir-flag-numbers-spec : {M : Type 1} → statement M
+ir-flag-numbers-spec =
+    tie.close
+    (tie.spec
+    bit-requires
+    bit-requires-2
+    bit-requires-3
+    bit-requires-4
+    bit-requires-5
+    bit-requires-6
+    bit-requires-7
+    bit-requires-8
+    bit-requires-9
+    bit-requires-10
+    returns)

@@ -1,0 +1,47 @@
+-- `interface::readings::put_ccd` meets its contract.
+-- Assumes nothing.
+use Rattle.interface.proofs.Groups.{ccd-stored}
+use borrow.Author.Needs.{needs}
+use Rattle.interface.proofs.readings.put_ccd.Statement.{statement}
+use Rattle.interface.proofs.readings.put_ccd.Tie as tie
+
+ccd-status-numbers-requires : tie.Need-ccd-status-numbers-requires
+ccd-status-numbers-requires c κs = search needs
+
+ccd-flag-numbers-requires : tie.Need-ccd-flag-numbers-requires
+ccd-flag-numbers-requires c κs = search needs
+
+put-requires : tie.Need-put-requires
+put-requires c κs = search needs
+
+slice-aggregate-put : tie.Need-slice-aggregate-put
+slice-aggregate-put c = search needs
+
+put-requires-2 : tie.Need-put-requires-2
+put-requires-2 c κs = search needs
+
+slice-aggregate-put-2 : tie.Need-slice-aggregate-put-2
+slice-aggregate-put-2 c = search needs
+
+put-requires-3 : tie.Need-put-requires-3
+put-requires-3 c κs = search needs
+
+same-length : tie.Need-same-length
+same-length c = search needs
+
+returns : tie.Need-returns
+returns c = search (needs, ccd-stored)
+
+pub put-ccd-spec : {M : Type 1} → statement M
+put-ccd-spec =
+    tie.close
+    (tie.spec
+    ccd-status-numbers-requires
+    ccd-flag-numbers-requires
+    put-requires
+    slice-aggregate-put
+    put-requires-2
+    slice-aggregate-put-2
+    put-requires-3
+    same-length
+    returns)

@@ -1,0 +1,47 @@
+-- `interface::shabgozim_read_ccd` meets its contract.
+-- Assumes nothing.
+use Rattle.interface.proofs.Reading.{ccd-unfit-answer, ccd-unfit-left, ccd-place, ccd-refused, ccd-refused-left, ccd-read, ccd-read-left}
+use borrow.Author.Needs.{needs}
+use Rattle.interface.proofs.shabgozim_read_ccd.Statement.{statement}
+use Rattle.interface.proofs.shabgozim_read_ccd.Tie as tie
+
+returns : tie.Need-returns
+returns c = search (needs, ccd-unfit-answer, ccd-unfit-left)
+
+read-ccd-requires : tie.Need-read-ccd-requires
+read-ccd-requires c κs = search needs
+
+enum-known-answer : tie.Need-enum-known-answer
+enum-known-answer c = search needs
+
+put-ccd-requires : tie.Need-put-ccd-requires
+put-ccd-requires c κs = search needs
+
+enum-known-answer-2 : tie.Need-enum-known-answer-2
+enum-known-answer-2 c = search needs
+
+refused-number-requires : tie.Need-refused-number-requires
+refused-number-requires c κs = search (needs, ccd-place)
+
+same-length : tie.Need-same-length
+same-length c = search needs
+
+returns-2 : tie.Need-returns-2
+returns-2 c = search (needs, ccd-read, ccd-read-left)
+
+returns-3 : tie.Need-returns-3
+returns-3 c = search (needs, ccd-refused, ccd-refused-left)
+
+pub shabgozim-read-ccd-spec : {M : Type 1} → statement M
+shabgozim-read-ccd-spec =
+    tie.close
+    (tie.spec
+    returns
+    read-ccd-requires
+    enum-known-answer
+    put-ccd-requires
+    enum-known-answer-2
+    refused-number-requires
+    same-length
+    returns-2
+    returns-3)

@@ -1,0 +1,47 @@
+-- `interface::shabgozim_read_ir` meets its contract.
+-- Assumes nothing.
+use Rattle.interface.proofs.Reading.{ir-unfit-answer, ir-unfit-left, ir-place, ir-refused, ir-refused-left, ir-read, ir-read-left}
+use borrow.Author.Needs.{needs}
+use Rattle.interface.proofs.shabgozim_read_ir.Statement.{statement}
+use Rattle.interface.proofs.shabgozim_read_ir.Tie as tie
+
+returns : tie.Need-returns
+returns c = search (needs, ir-unfit-answer, ir-unfit-left)
+
+read-ir-requires : tie.Need-read-ir-requires
+read-ir-requires c κs = search needs
+
+enum-known-answer : tie.Need-enum-known-answer
+enum-known-answer c = search needs
+
+put-ir-requires : tie.Need-put-ir-requires
+put-ir-requires c κs = search needs
+
+enum-known-answer-2 : tie.Need-enum-known-answer-2
+enum-known-answer-2 c = search needs
+
+refused-number-requires : tie.Need-refused-number-requires
+refused-number-requires c κs = search (needs, ir-place)
+
+same-length : tie.Need-same-length
+same-length c = search needs
+
+returns-2 : tie.Need-returns-2
+returns-2 c = search (needs, ir-read, ir-read-left)
+
+returns-3 : tie.Need-returns-3
+returns-3 c = search (needs, ir-refused, ir-refused-left)
+
+pub shabgozim-read-ir-spec : {M : Type 1} → statement M
+shabgozim-read-ir-spec =
+    tie.close
+    (tie.spec
+    returns
+    read-ir-requires
+    enum-known-answer
+    put-ir-requires
+    enum-known-answer-2
+    refused-number-requires
+    same-length
+    returns-2
+    returns-3)

@@ -1,0 +1,60 @@
+-- `interface::shabgozim_write_ccd` meets its contract.
+-- Assumes nothing.
+use Rattle.interface.proofs.Ways.{long}
+use Rattle.interface.proofs.Writing.{few-number, few-left, unfit-number, unfit-left, ill-number, ill-left, written-answer, ccd-left}
+use borrow.Author.Needs.{needs}
+use Rattle.interface.proofs.shabgozim_write_ccd.Statement.{statement}
+use Rattle.interface.proofs.shabgozim_write_ccd.Tie as tie
+
+returns : tie.Need-returns
+returns c = search (needs, few-number, few-left)
+
+returns-2 : tie.Need-returns-2
+returns-2 c = search (needs, unfit-number, unfit-left)
+
+well-formed-requires : tie.Need-well-formed-requires
+well-formed-requires c κs = search needs
+
+returns-3 : tie.Need-returns-3
+returns-3 c = search (needs, ill-number, ill-left)
+
+load-requires : tie.Need-load-requires
+load-requires c κs = long _ _ (c .before .well-formed .ensures) (c .if3 .left)
+
+flags-in-requires : tie.Need-flags-in-requires
+flags-in-requires c κs = search needs
+
+ccd-readings-requires : tie.Need-ccd-readings-requires
+ccd-readings-requires c κs = search needs
+
+ccd-bits-in-requires : tie.Need-ccd-bits-in-requires
+ccd-bits-in-requires c κs = search needs
+
+write-ccd-requires : tie.Need-write-ccd-requires
+write-ccd-requires c κs = search needs
+
+written-number-requires : tie.Need-written-number-requires
+written-number-requires c κs = search needs
+
+same-length : tie.Need-same-length
+same-length c = search needs
+
+returns-4 : tie.Need-returns-4
+returns-4 c = search (needs, written-answer, ccd-left)
+
+pub shabgozim-write-ccd-spec : {M : Type 1} → statement M
+shabgozim-write-ccd-spec =
+    tie.close
+    (tie.spec
+    returns
+    returns-2
+    well-formed-requires
+    returns-3
+    load-requires
+    flags-in-requires
+    ccd-readings-requires
+    ccd-bits-in-requires
+    write-ccd-requires
+    written-number-requires
+    same-length
+    returns-4)

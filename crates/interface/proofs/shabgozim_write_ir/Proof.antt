@@ -1,0 +1,60 @@
+-- `interface::shabgozim_write_ir` meets its contract.
+-- Assumes nothing.
+use Rattle.interface.proofs.Ways.{long}
+use Rattle.interface.proofs.Writing.{few-number, few-left, unfit-number, unfit-left, ill-number, ill-left, written-answer, ir-left}
+use borrow.Author.Needs.{needs}
+use Rattle.interface.proofs.shabgozim_write_ir.Statement.{statement}
+use Rattle.interface.proofs.shabgozim_write_ir.Tie as tie
+
+returns : tie.Need-returns
+returns c = search (needs, few-number, few-left)
+
+returns-2 : tie.Need-returns-2
+returns-2 c = search (needs, unfit-number, unfit-left)
+
+well-formed-requires : tie.Need-well-formed-requires
+well-formed-requires c κs = search needs
+
+returns-3 : tie.Need-returns-3
+returns-3 c = search (needs, ill-number, ill-left)
+
+load-requires : tie.Need-load-requires
+load-requires c κs = long _ _ (c .before .well-formed .ensures) (c .if3 .left)
+
+flags-in-requires : tie.Need-flags-in-requires
+flags-in-requires c κs = search needs
+
+ir-readings-requires : tie.Need-ir-readings-requires
+ir-readings-requires c κs = search needs
+
+ir-bits-in-requires : tie.Need-ir-bits-in-requires
+ir-bits-in-requires c κs = search needs
+
+write-ir-requires : tie.Need-write-ir-requires
+write-ir-requires c κs = search needs
+
+written-number-requires : tie.Need-written-number-requires
+written-number-requires c κs = search needs
+
+same-length : tie.Need-same-length
+same-length c = search needs
+
+returns-4 : tie.Need-returns-4
+returns-4 c = search (needs, written-answer, ir-left)
+
+pub shabgozim-write-ir-spec : {M : Type 1} → statement M
+shabgozim-write-ir-spec =
+    tie.close
+    (tie.spec
+    returns
+    returns-2
+    well-formed-requires
+    returns-3
+    load-requires
+    flags-in-requires
+    ir-readings-requires
+    ir-bits-in-requires
+    write-ir-requires
+    written-number-requires
+    same-length
+    returns-4)
