@@ -1,0 +1,38 @@
+//! The VIRTIS-M command words, the PEM-M head, stored plans and the two
+//! housekeeping blocks, written from document 01 alone.
+//!
+//! | module | idea |
+//! |---|---|
+//! | [`words`] | the 28 kinds of command word |
+//! | [`state`] | the numbers a head holds and their ranges |
+//! | [`head`] | what the head makes of a word and of a tick |
+//! | [`plan`] | stored plans, taken apart order by order |
+//! | [`translate`](mod@translate) | a plan turned into timed words |
+//! | [`reading`] | a plan read without any words |
+//! | [`run`](mod@run) | a head driven through timed words, tick by tick |
+//! | [`blocks`] | the two housekeeping blocks, written and read |
+//! | [`listing`](mod@listing) | the printed form of a translation |
+
+#![forbid(unsafe_code)]
+
+pub mod blocks;
+pub mod head;
+pub mod listing;
+pub mod plan;
+pub mod reading;
+pub mod run;
+pub mod state;
+pub mod translate;
+pub mod words;
+
+pub use blocks::{
+    read_ccd, read_ir, write_ccd, write_ir, BlockRefusal, CcdMeaning, IrCallerBits, IrMeaning,
+};
+pub use head::{receive, tick, word, Act, Cause, Outcome, Task, Ticked};
+pub use listing::listing;
+pub use plan::{CoverMove, Order, Refusal};
+pub use reading::{read_plan, LoggedAct, Reading};
+pub use run::{run, Checks, Run};
+pub use state::{in_range, power_on, ErrorFlags, MirrorSet, Settings, State};
+pub use translate::{translate, Translated, Translation};
+pub use words::{decode, encode, Decoded, Kind};
