@@ -1,0 +1,62 @@
+//! The C functions, as `include/shabgozim.h` declares them.
+
+extern "C" {
+    pub fn shabgozim_power_on(state: *mut u16, state_len: usize) -> u32;
+    pub fn shabgozim_in_range(state: *const u16, state_len: usize) -> u32;
+    pub fn shabgozim_word(state: *mut u16, state_len: usize, word: u16) -> u32;
+    pub fn shabgozim_tick(state: *mut u16, state_len: usize) -> u32;
+    pub fn shabgozim_decode(word: u16) -> u32;
+    pub fn shabgozim_encode(kind: u8, data: u16) -> u32;
+}
+
+#[cfg(feature = "translate")]
+extern "C" {
+    pub fn shabgozim_translate(
+        state: *const u16,
+        state_len: usize,
+        plan: *const u8,
+        plan_len: usize,
+        words: *mut u16,
+        words_len: usize,
+        ticks: *mut u32,
+        ticks_len: usize,
+    ) -> u64;
+}
+
+#[cfg(feature = "blocks")]
+extern "C" {
+    pub fn shabgozim_write_ir(
+        state: *const u16,
+        state_len: usize,
+        flags: u32,
+        ended: u32,
+        bits: u32,
+        readings: *const u16,
+        readings_len: usize,
+        block: *mut u16,
+        block_len: usize,
+    ) -> u32;
+    pub fn shabgozim_write_ccd(
+        state: *const u16,
+        state_len: usize,
+        flags: u32,
+        ended: u32,
+        bits: u32,
+        readings: *const u16,
+        readings_len: usize,
+        block: *mut u16,
+        block_len: usize,
+    ) -> u32;
+    pub fn shabgozim_read_ir(
+        block: *const u16,
+        block_len: usize,
+        meaning: *mut u16,
+        meaning_len: usize,
+    ) -> u32;
+    pub fn shabgozim_read_ccd(
+        block: *const u16,
+        block_len: usize,
+        meaning: *mut u16,
+        meaning_len: usize,
+    ) -> u32;
+}

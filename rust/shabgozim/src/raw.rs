@@ -1,0 +1,143 @@
+//! The C functions over slices, with their answers still packed in numbers.
+//!
+//! Slices may have any length and hold anything: the library judges both. It
+//! keeps no memory of its own and holds on to no slice.
+
+use crate::ffi;
+
+/// Writes the power-on state: 0, or 21 where there are not 35 places.
+pub fn power_on(state: &mut [u16]) -> u32 {
+    // SAFETY: the pointer and length are those of a slice.
+    unsafe { ffi::shabgozim_power_on(state.as_mut_ptr(), state.len()) }
+}
+
+/// 0 for a state in range, else 21.
+pub fn in_range(state: &[u16]) -> u32 {
+    // SAFETY: as above.
+    unsafe { ffi::shabgozim_in_range(state.as_ptr(), state.len()) }
+}
+
+/// Gives the head a word: 0 taken, 1 exposure, 2 housekeeping, a cover word
+/// itself, or 21 to 25.
+pub fn word(state: &mut [u16], word: u16) -> u32 {
+    // SAFETY: as above.
+    unsafe { ffi::shabgozim_word(state.as_mut_ptr(), state.len(), word) }
+}
+
+/// Lets a tick pass. Low eight bits: 0 nothing due, 1 blocks due after an
+/// acquisition, 2 after housekeeping, 21 refused. Bits 8 to 12: flags shown.
+pub fn tick(state: &mut [u16]) -> u32 {
+    // SAFETY: as above.
+    unsafe { ffi::shabgozim_tick(state.as_mut_ptr(), state.len()) }
+}
+
+/// Data in bits 0 to 15, kind in 16 to 23, number (0, 23, 24) in 24 to 31.
+pub fn decode(word: u16) -> u32 {
+    // SAFETY: plain numbers.
+    unsafe { ffi::shabgozim_decode(word) }
+}
+
+/// Word in bits 0 to 15, number (0 or 24) in 24 to 31.
+pub fn encode(kind: u8, data: u16) -> u32 {
+    // SAFETY: plain numbers.
+    unsafe { ffi::shabgozim_encode(kind, data) }
+}
+
+/// Translates a plan. Bits 0 to 7: number (0, or 1 to 10); 8 to 23: count;
+/// 32 to 63: the end, or the place of a refusal.
+#[cfg(feature = "translate")]
+pub fn translate(state: &[u16], plan: &[u8], words: &mut [u16], ticks: &mut [u32]) -> u64 {
+    // SAFETY: as above, for four slices.
+    unsafe {
+        ffi::shabgozim_translate(
+            state.as_ptr(),
+            state.len(),
+            plan.as_ptr(),
+            plan.len(),
+            words.as_mut_ptr(),
+            words.len(),
+            ticks.as_mut_ptr(),
+            ticks.len(),
+        )
+    }
+}
+
+/// Writes the IR block: 0, 11 or 21.
+#[cfg(feature = "blocks")]
+pub fn write_ir(
+    state: &[u16],
+    flags: u32,
+    ended: u32,
+    bits: u32,
+    readings: &[u16],
+    block: &mut [u16],
+) -> u32 {
+    // SAFETY: as above, for three slices.
+    unsafe {
+        ffi::shabgozim_write_ir(
+            state.as_ptr(),
+            state.len(),
+            flags,
+            ended,
+            bits,
+            readings.as_ptr(),
+            readings.len(),
+            block.as_mut_ptr(),
+            block.len(),
+        )
+    }
+}
+
+/// Writes the CCD block: 0, 11 or 21.
+#[cfg(feature = "blocks")]
+pub fn write_ccd(
+    state: &[u16],
+    flags: u32,
+    ended: u32,
+    bits: u32,
+    readings: &[u16],
+    block: &mut [u16],
+) -> u32 {
+    // SAFETY: as above, for three slices.
+    unsafe {
+        ffi::shabgozim_write_ccd(
+            state.as_ptr(),
+            state.len(),
+            flags,
+            ended,
+            bits,
+            readings.as_ptr(),
+            readings.len(),
+            block.as_mut_ptr(),
+            block.len(),
+        )
+    }
+}
+
+/// Reads an IR block: number in bits 0 to 7, place above.
+#[cfg(feature = "blocks")]
+pub fn read_ir(block: &[u16], meaning: &mut [u16]) -> u32 {
+    // SAFETY: as above, for two slices.
+    unsafe {
+        ffi::shabgozim_read_ir(
+            block.as_ptr(),
+            block.len(),
+            meaning.as_mut_ptr(),
+            meaning.len(),
+        )
+    }
+}
+
+/// Reads a CCD block: number in bits 0 to 7, place above.
+#[cfg(feature = "blocks")]
+pub fn read_ccd(block: &[u16], meaning: &mut [u16]) -> u32 {
+    // SAFETY: as above, for two slices.
+    unsafe {
+        ffi::shabgozim_read_ccd(
+            block.as_ptr(),
+            block.len(),
+            meaning.as_mut_ptr(),
+            meaning.len(),
+        )
+    }
+}
