@@ -1,0 +1,99 @@
+//! Decoding and encoding of everything, packed and unpacked.
+
+use crate::random::Random;
+use crate::reduce::{failure, Case, Counted, Failure};
+use crate::sides::{Library, Paper, Side};
+use std::fmt;
+
+const ALLOWED_WORDS: usize = 9133;
+
+enum CodecCase {
+    Decode(u16),
+    Encode(u8, u16),
+}
+
+impl CodecCase {
+    fn answer<S: Side>(&self) -> u32 {
+        match *self {
+            CodecCase::Decode(word) => S::decode(word),
+            CodecCase::Encode(kind, data) => S::encode(kind, data),
+        }
+    }
+}
+
+impl Case for CodecCase {
+    fn difference(&self) -> Option<String> {
+        let (answer, expected) = (self.answer::<Library>(), self.answer::<Paper>());
+        let text = format!("answer: library {answer:#X}, paper {expected:#X}");
+        (answer != expected).then_some(text)
+    }
+
+    fn shorter(&self) -> Vec<CodecCase> {
+        Vec::new()
+    }
+}
+
+impl fmt::Display for CodecCase {
+    fn fmt(&self, out: &mut fmt::Formatter) -> fmt::Result {
+        match self {
+            CodecCase::Decode(word) => write!(out, "decode {word:04X}"),
+            CodecCase::Encode(kind, data) => write!(out, "encode kind {kind} data {data:04X}"),
+        }
+    }
+}
+
+pub fn decode_all(_: &mut Random, _: u32) -> Counted {
+    for word in 0..=u16::MAX {
+        if Library::decode(word) != Paper::decode(word) {
+            return Err(failure(CodecCase::Decode(word)));
+        }
+        unpacked_alike(word)?;
+    }
+    right_number_of_words()?;
+    Ok(1 << 16)
+}
+
+pub fn encode_all(_: &mut Random, _: u32) -> Counted {
+    for kind in 0..=u8::MAX {
+        for data in 0..=u16::MAX {
+            if Library::encode(kind, data) != Paper::encode(kind, data) {
+                return Err(failure(CodecCase::Encode(kind, data)));
+            }
+        }
+    }
+    Ok(1 << 24)
+}
+
+/// The wrapper's unpacked answer against the paper's own.
+fn unpacked_alike(word: u16) -> Result<(), Failure> {
+    use shabgozim::Decoded::{OutOfRange, Unknown, Word};
+    let expected = match paper::decode(word) {
+        paper::Decoded::Unknown => Unknown,
+        paper::Decoded::OutOfRange { kind } => OutOfRange { kind: kind.index() },
+        paper::Decoded::Allowed { kind, data } => Word {
+            kind: kind.index(),
+            data,
+        },
+    };
+    let found = shabgozim::decode(word);
+    let back = match found {
+        Word { kind, data } => shabgozim::encode(kind, data) == Some(word),
+        _ => true,
+    };
+    if found == expected && back {
+        return Ok(());
+    }
+    let text = format!("decode {word:04X}: library {found:?}, paper {expected:?}");
+    Err(Failure(text))
+}
+
+fn right_number_of_words() -> Result<(), Failure> {
+    let allowed = (0..=u16::MAX).filter(|&word| Library::decode(word) >> 24 == 0);
+    let count = allowed.count();
+    match count {
+        ALLOWED_WORDS => Ok(()),
+        _ => Err(Failure(format!(
+            "{count} allowed words, not {ALLOWED_WORDS}"
+        ))),
+    }
+}

@@ -1,0 +1,27 @@
+//! The verified library compared with the implementation written from
+//! document 01.
+//!
+//! | module | idea |
+//! |---|---|
+//! | [`sides`] | the two implementations behind one interface |
+//! | [`random`], [`states`], [`words`] | what they are given |
+//! | [`buffer`] | lent buffers with margins |
+//! | [`reduce`] | a failing case made short |
+//! | the others | the comparisons |
+
+#[cfg(feature = "blocks")]
+pub mod blocks;
+pub mod buffer;
+pub mod codec;
+#[cfg(feature = "translate")]
+pub mod demand3;
+#[cfg(feature = "translate")]
+pub mod orders;
+#[cfg(feature = "translate")]
+pub mod plans;
+pub mod random;
+pub mod reduce;
+pub mod sides;
+pub mod states;
+pub mod steps;
+pub mod words;

@@ -1,0 +1,100 @@
+//! Compares the library with the implementation written from document 01.
+//!
+//! `compare [--seed N] [--long]`: a run of some ten million comparisons, or
+//! a much longer one. It stops at the first difference and prints it.
+
+use compare::random::Random;
+use compare::reduce::{Counted, Failure};
+use compare::{codec, steps};
+use std::process::ExitCode;
+use std::time::{Instant, SystemTime, UNIX_EPOCH};
+
+/// How much of the random comparisons a long run makes.
+const LONG: u32 = 40;
+
+type Part = (&'static str, fn(&mut Random, u32) -> Counted);
+
+const PARTS: &[Part] = &[
+    ("decode", codec::decode_all),
+    ("encode", codec::encode_all),
+    ("words from states", steps::words_from_states),
+    ("every number of a state", steps::every_number),
+    ("state lengths", steps::state_lengths),
+    ("runs of words and ticks", steps::runs),
+    #[cfg(feature = "translate")]
+    ("plan fields", compare::plans::fields),
+    #[cfg(feature = "translate")]
+    ("plan forms", compare::plans::forms),
+    #[cfg(feature = "translate")]
+    ("damaged plans", compare::plans::damaged),
+    #[cfg(feature = "translate")]
+    ("plans, states, buffers", compare::plans::mixed),
+    #[cfg(feature = "translate")]
+    ("demand 3", compare::demand3::random_plans),
+    #[cfg(feature = "blocks")]
+    ("blocks written", compare::blocks::written),
+    #[cfg(feature = "blocks")]
+    ("blocks read", compare::blocks::read),
+    #[cfg(feature = "blocks")]
+    ("block lengths", compare::blocks::lengths),
+];
+
+struct Options {
+    seed: u64,
+    times: u32,
+}
+
+fn main() -> ExitCode {
+    let Some(options) = options() else {
+        eprintln!("usage: compare [--seed N] [--long]");
+        return ExitCode::from(2);
+    };
+    println!("seed {}", options.seed);
+    match all_parts(&options) {
+        Ok(()) => ExitCode::SUCCESS,
+        Err(Failure(text)) => {
+            println!("DIFFERENCE, reduced:\n{text}");
+            ExitCode::FAILURE
+        }
+    }
+}
+
+fn options() -> Option<Options> {
+    let mut options = Options {
+        seed: seed_from_clock(),
+        times: 1,
+    };
+    let mut words = std::env::args().skip(1);
+    while let Some(word) = words.next() {
+        match word.as_str() {
+            "--long" => options.times = LONG,
+            "--seed" => options.seed = words.next()?.parse().ok()?,
+            _ => return None,
+        }
+    }
+    Some(options)
+}
+
+fn seed_from_clock() -> u64 {
+    let now = SystemTime::now().duration_since(UNIX_EPOCH);
+    now.map_or(1, |now| now.as_secs())
+}
+
+fn all_parts(options: &Options) -> Result<(), Failure> {
+    let start = Instant::now();
+    let mut total = 0;
+    for (index, (name, part)) in PARTS.iter().enumerate() {
+        let started = Instant::now();
+        let mut random = Random::new(options.seed.wrapping_add((index as u64) << 48));
+        let count = part(&mut random, options.times)?;
+        total += count;
+        print_count(name, count, started);
+    }
+    print_count("no difference", total, start);
+    Ok(())
+}
+
+fn print_count(name: &str, count: u64, started: Instant) {
+    let seconds = started.elapsed().as_secs_f64();
+    println!("{name:24} {count:11} comparisons {seconds:7.2} s");
+}

@@ -1,0 +1,59 @@
+//! The verified library, through its wrapper.
+
+#[cfg(feature = "blocks")]
+use super::Shown;
+use super::Side;
+use shabgozim::raw;
+
+pub struct Library;
+
+impl Side for Library {
+    fn power_on(state: &mut [u16]) -> u32 {
+        raw::power_on(state)
+    }
+
+    fn in_range(state: &[u16]) -> u32 {
+        raw::in_range(state)
+    }
+
+    fn word(state: &mut [u16], word: u16) -> u32 {
+        raw::word(state, word)
+    }
+
+    fn tick(state: &mut [u16]) -> u32 {
+        raw::tick(state)
+    }
+
+    fn decode(word: u16) -> u32 {
+        raw::decode(word)
+    }
+
+    fn encode(kind: u8, data: u16) -> u32 {
+        raw::encode(kind, data)
+    }
+
+    #[cfg(feature = "translate")]
+    fn translate(state: &[u16], plan: &[u8], words: &mut [u16], ticks: &mut [u32]) -> u64 {
+        raw::translate(state, plan, words, ticks)
+    }
+
+    #[cfg(feature = "blocks")]
+    fn write_ir(state: &[u16], shown: Shown, readings: &[u16], block: &mut [u16]) -> u32 {
+        raw::write_ir(state, shown.flags, shown.ended, shown.bits, readings, block)
+    }
+
+    #[cfg(feature = "blocks")]
+    fn write_ccd(state: &[u16], shown: Shown, readings: &[u16], block: &mut [u16]) -> u32 {
+        raw::write_ccd(state, shown.flags, shown.ended, shown.bits, readings, block)
+    }
+
+    #[cfg(feature = "blocks")]
+    fn read_ir(block: &[u16], meaning: &mut [u16]) -> u32 {
+        raw::read_ir(block, meaning)
+    }
+
+    #[cfg(feature = "blocks")]
+    fn read_ccd(block: &[u16], meaning: &mut [u16]) -> u32 {
+        raw::read_ccd(block, meaning)
+    }
+}

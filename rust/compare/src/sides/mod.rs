@@ -1,0 +1,38 @@
+//! The two implementations behind one interface: slices and packed numbers,
+//! as in `include/shabgozim.h`.
+
+mod library;
+mod paper;
+
+pub use library::Library;
+pub use paper::Paper;
+
+pub trait Side {
+    fn power_on(state: &mut [u16]) -> u32;
+    fn in_range(state: &[u16]) -> u32;
+    fn word(state: &mut [u16], word: u16) -> u32;
+    fn tick(state: &mut [u16]) -> u32;
+    fn decode(word: u16) -> u32;
+    fn encode(kind: u8, data: u16) -> u32;
+
+    #[cfg(feature = "translate")]
+    fn translate(state: &[u16], plan: &[u8], words: &mut [u16], ticks: &mut [u32]) -> u64;
+
+    #[cfg(feature = "blocks")]
+    fn write_ir(state: &[u16], shown: Shown, readings: &[u16], block: &mut [u16]) -> u32;
+    #[cfg(feature = "blocks")]
+    fn write_ccd(state: &[u16], shown: Shown, readings: &[u16], block: &mut [u16]) -> u32;
+    #[cfg(feature = "blocks")]
+    fn read_ir(block: &[u16], meaning: &mut [u16]) -> u32;
+    #[cfg(feature = "blocks")]
+    fn read_ccd(block: &[u16], meaning: &mut [u16]) -> u32;
+}
+
+/// What a writer is given besides state and readings.
+#[cfg(feature = "blocks")]
+#[derive(Clone, Copy, Debug, Default, PartialEq, Eq)]
+pub struct Shown {
+    pub flags: u32,
+    pub ended: u32,
+    pub bits: u32,
+}

@@ -1,0 +1,322 @@
+//! The implementation written from document 01, behind the same interface.
+//!
+//! The `paper_` functions are never inlined and keep their names, so that
+//! instruction counts can be taken of each.
+
+#[cfg(feature = "blocks")]
+use super::Shown;
+use super::Side;
+use paper::state::STATE_LENGTH;
+use paper::{Decoded, ErrorFlags, State, Task, Ticked};
+
+pub struct Paper;
+
+const STATE_REFUSED: u32 = 21;
+const UNKNOWN: u32 = 23 << 24;
+const OUT_OF_RANGE: u32 = 24 << 24;
+
+impl Side for Paper {
+    fn power_on(state: &mut [u16]) -> u32 {
+        paper_power_on(state)
+    }
+
+    fn in_range(state: &[u16]) -> u32 {
+        paper_in_range(state)
+    }
+
+    fn word(state: &mut [u16], word: u16) -> u32 {
+        paper_word(state, word)
+    }
+
+    fn tick(state: &mut [u16]) -> u32 {
+        paper_tick(state)
+    }
+
+    fn decode(word: u16) -> u32 {
+        paper_decode(word)
+    }
+
+    fn encode(kind: u8, data: u16) -> u32 {
+        paper_encode(kind, data)
+    }
+
+    #[cfg(feature = "translate")]
+    fn translate(state: &[u16], plan: &[u8], words: &mut [u16], ticks: &mut [u32]) -> u64 {
+        paper_translate(state, plan, words, ticks)
+    }
+
+    #[cfg(feature = "blocks")]
+    fn write_ir(state: &[u16], shown: Shown, readings: &[u16], block: &mut [u16]) -> u32 {
+        blocks::paper_write_ir(state, shown, readings, block)
+    }
+
+    #[cfg(feature = "blocks")]
+    fn write_ccd(state: &[u16], shown: Shown, readings: &[u16], block: &mut [u16]) -> u32 {
+        blocks::paper_write_ccd(state, shown, readings, block)
+    }
+
+    #[cfg(feature = "blocks")]
+    fn read_ir(block: &[u16], meaning: &mut [u16]) -> u32 {
+        blocks::paper_read_ir(block, meaning)
+    }
+
+    #[cfg(feature = "blocks")]
+    fn read_ccd(block: &[u16], meaning: &mut [u16]) -> u32 {
+        blocks::paper_read_ccd(block, meaning)
+    }
+}
+
+fn places(state: &mut [u16]) -> Option<&mut [u16; STATE_LENGTH]> {
+    state.try_into().ok()
+}
+
+fn load(state: &[u16]) -> Option<State> {
+    state.try_into().ok().map(State::from_array)
+}
+
+#[no_mangle]
+#[inline(never)]
+fn paper_power_on(state: &mut [u16]) -> u32 {
+    let Some(places) = places(state) else {
+        return STATE_REFUSED;
+    };
+    *places = paper::power_on().to_array();
+    0
+}
+
+#[no_mangle]
+#[inline(never)]
+fn paper_in_range(state: &[u16]) -> u32 {
+    match load(state) {
+        Some(state) if paper::in_range(&state) => 0,
+        _ => STATE_REFUSED,
+    }
+}
+
+#[no_mangle]
+#[inline(never)]
+fn paper_word(state: &mut [u16], word: u16) -> u32 {
+    let Some(places) = places(state) else {
+        return STATE_REFUSED;
+    };
+    let mut head = State::from_array(places);
+    let answer = paper::word(&mut head, word);
+    *places = head.to_array();
+    u32::from(answer)
+}
+
+#[no_mangle]
+#[inline(never)]
+fn paper_tick(state: &mut [u16]) -> u32 {
+    let Some(places) = places(state) else {
+        return STATE_REFUSED;
+    };
+    let mut head = State::from_array(places);
+    let ticked = paper::tick(&mut head);
+    *places = head.to_array();
+    match ticked {
+        Ticked::Refused(number) => u32::from(number),
+        Ticked::NothingDue => 0,
+        Ticked::BlocksDue { task, flags } => task_number(task) | flag_bits(flags) << 8,
+    }
+}
+
+fn task_number(task: Task) -> u32 {
+    match task {
+        Task::Acquisition => 1,
+        Task::Housekeeping => 2,
+    }
+}
+
+fn flag_bits(flags: ErrorFlags) -> u32 {
+    u32::from(flags.ir_time)
+        | u32::from(flags.ir_word) << 1
+        | u32::from(flags.ir_scan) << 2
+        | u32::from(flags.vis_time) << 3
+        | u32::from(flags.vis_word) << 4
+}
+
+#[no_mangle]
+#[inline(never)]
+fn paper_decode(word: u16) -> u32 {
+    match paper::decode(word) {
+        Decoded::Allowed { kind, data } => u32::from(kind.index()) << 16 | u32::from(data),
+        Decoded::Unknown => UNKNOWN,
+        Decoded::OutOfRange { kind } => OUT_OF_RANGE | u32::from(kind.index()) << 16,
+    }
+}
+
+#[no_mangle]
+#[inline(never)]
+fn paper_encode(kind: u8, data: u16) -> u32 {
+    paper::encode(kind, data).map_or(OUT_OF_RANGE, u32::from)
+}
+
+#[cfg(feature = "translate")]
+#[no_mangle]
+#[inline(never)]
+fn paper_translate(state: &[u16], plan: &[u8], words: &mut [u16], ticks: &mut [u32]) -> u64 {
+    const NOT_READY: u64 = 1;
+    let Some(state) = load(state) else {
+        return NOT_READY;
+    };
+    match paper::translate(&state, plan, words, ticks) {
+        Ok(done) => (done.count as u64) << 8 | u64::from(done.end) << 32,
+        Err(refusal) => {
+            let count = refusal.count.unwrap_or(0) as u64;
+            u64::from(refusal.number) | count << 8 | (refusal.place as u64) << 32
+        }
+    }
+}
+
+#[cfg(feature = "blocks")]
+mod blocks {
+    use super::super::Shown;
+    use super::{load, STATE_REFUSED};
+    use paper::blocks::{CCD_LENGTH, CCD_READINGS, IR_LENGTH, IR_READINGS};
+    use paper::{BlockRefusal, CcdMeaning, ErrorFlags, IrCallerBits, IrMeaning};
+    use shabgozim::{CCD_MEANING_LENGTH, IR_MEANING_LENGTH};
+
+    const WRONG_LENGTH: u32 = 11;
+
+    #[no_mangle]
+    #[inline(never)]
+    pub fn paper_write_ir(state: &[u16], shown: Shown, readings: &[u16], block: &mut [u16]) -> u32 {
+        let Ok(readings) = <&[u16; IR_READINGS]>::try_from(readings) else {
+            return WRONG_LENGTH;
+        };
+        if block.len() != IR_LENGTH {
+            return WRONG_LENGTH;
+        }
+        let Some(state) = load(state) else {
+            return STATE_REFUSED;
+        };
+        let caller = IrCallerBits {
+            latch_up: bit(shown.bits, 0),
+            not_closed: bit(shown.bits, 1),
+            not_open: bit(shown.bits, 2),
+        };
+        let flags = flags(shown.flags);
+        let ended = shown.ended == 1;
+        u32::from(paper::write_ir(
+            &state, &flags, ended, readings, caller, block,
+        ))
+    }
+
+    #[no_mangle]
+    #[inline(never)]
+    pub fn paper_write_ccd(
+        state: &[u16],
+        shown: Shown,
+        readings: &[u16],
+        block: &mut [u16],
+    ) -> u32 {
+        let Ok(readings) = <&[u16; CCD_READINGS]>::try_from(readings) else {
+            return WRONG_LENGTH;
+        };
+        if block.len() != CCD_LENGTH {
+            return WRONG_LENGTH;
+        }
+        let Some(state) = load(state) else {
+            return STATE_REFUSED;
+        };
+        let flags = flags(shown.flags);
+        let (ended, latch_up) = (shown.ended == 1, bit(shown.bits, 0));
+        u32::from(paper::write_ccd(
+            &state, &flags, ended, readings, latch_up, block,
+        ))
+    }
+
+    #[no_mangle]
+    #[inline(never)]
+    pub fn paper_read_ir(block: &[u16], meaning: &mut [u16]) -> u32 {
+        let Ok(meaning) = <&mut [u16; IR_MEANING_LENGTH]>::try_from(meaning) else {
+            return WRONG_LENGTH;
+        };
+        match paper::read_ir(block) {
+            Ok(read) => {
+                store_ir(&read, meaning);
+                0
+            }
+            Err(refusal) => refused(refusal),
+        }
+    }
+
+    #[no_mangle]
+    #[inline(never)]
+    pub fn paper_read_ccd(block: &[u16], meaning: &mut [u16]) -> u32 {
+        let Ok(meaning) = <&mut [u16; CCD_MEANING_LENGTH]>::try_from(meaning) else {
+            return WRONG_LENGTH;
+        };
+        match paper::read_ccd(block) {
+            Ok(read) => {
+                store_ccd(&read, meaning);
+                0
+            }
+            Err(refusal) => refused(refusal),
+        }
+    }
+
+    fn refused(refusal: BlockRefusal) -> u32 {
+        u32::from(refusal.number) | (refusal.place as u32) << 8
+    }
+
+    fn store_ir(read: &IrMeaning, meaning: &mut [u16; IR_MEANING_LENGTH]) {
+        let (readings, rest) = meaning.split_at_mut(IR_READINGS);
+        readings.copy_from_slice(&read.readings);
+        rest.copy_from_slice(&[
+            read.window_mode,
+            read.delay,
+            read.expo,
+            read.lamp_current,
+            read.lamp_on.into(),
+            read.shutter_current,
+            read.shutter_closed.into(),
+            read.after_acquisition.into(),
+            read.time_error.into(),
+            read.word_error.into(),
+            read.scan_error.into(),
+            read.detector_on.into(),
+            read.latch_up.into(),
+            read.annealing_on.into(),
+            read.cover_opens.into(),
+            read.not_closed.into(),
+            read.not_open.into(),
+        ]);
+    }
+
+    fn store_ccd(read: &CcdMeaning, meaning: &mut [u16; CCD_MEANING_LENGTH]) {
+        let (readings, rest) = meaning.split_at_mut(CCD_READINGS);
+        readings.copy_from_slice(&read.readings);
+        rest.copy_from_slice(&[
+            read.x1,
+            read.y1,
+            read.x2,
+            read.y2,
+            read.delay,
+            read.expo,
+            read.sine_magnitude,
+            read.sine_negative.into(),
+            read.cosine,
+            read.after_acquisition.into(),
+            read.time_error.into(),
+            read.word_error.into(),
+            read.latch_up.into(),
+            read.lamp_on.into(),
+        ]);
+    }
+
+    fn flags(bits: u32) -> ErrorFlags {
+        ErrorFlags {
+            ir_time: bit(bits, 0),
+            ir_word: bit(bits, 1),
+            ir_scan: bit(bits, 2),
+            vis_time: bit(bits, 3),
+            vis_word: bit(bits, 4),
+        }
+    }
+
+    fn bit(bits: u32, place: u32) -> bool {
+        bits >> place & 1 == 1
+    }
+}

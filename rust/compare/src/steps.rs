@@ -1,0 +1,245 @@
+//! Words, ticks and the other functions over a state.
+
+use crate::buffer::{difference, Buffer};
+use crate::random::Random;
+use crate::reduce::{failure, Case, Counted};
+use crate::sides::{Library, Paper, Side};
+use crate::states;
+use crate::words::Words;
+use shabgozim::{place, STATE_LENGTH};
+use std::fmt;
+
+const MARGIN: u16 = 0xAAAA;
+const LONGEST_STATE: usize = 2 * STATE_LENGTH + 2;
+
+/// One call over a state.
+#[derive(Clone, Copy, Debug, PartialEq, Eq)]
+enum Step {
+    PowerOn,
+    InRange,
+    Word(u16),
+    Tick,
+}
+
+/// One step from one state.
+struct StepCase {
+    state: Vec<u16>,
+    step: Step,
+}
+
+/// The same state lent to each side.
+struct Pair {
+    library: Buffer<u16>,
+    paper: Buffer<u16>,
+}
+
+impl Step {
+    fn make<S: Side>(self, state: &mut [u16]) -> u32 {
+        match self {
+            Step::PowerOn => S::power_on(state),
+            Step::InRange => S::in_range(state),
+            Step::Word(word) => S::word(state, word),
+            Step::Tick => S::tick(state),
+        }
+    }
+
+    /// The same step with a word of less data.
+    fn shorter(self) -> Vec<Step> {
+        let Step::Word(word) = self else {
+            return Vec::new();
+        };
+        let (identifier, data) = (word & 0xFC00, word & 0x03FF);
+        let less = [0, data / 2, data.saturating_sub(1)];
+        let less = less.into_iter().filter(|&less| less < data);
+        less.map(|less| Step::Word(identifier | less)).collect()
+    }
+}
+
+impl Pair {
+    fn of(state: &[u16]) -> Pair {
+        let library = Buffer::holding(state, MARGIN);
+        let paper = library.clone();
+        Pair { library, paper }
+    }
+
+    fn reset(&mut self, state: &Buffer<u16>) {
+        self.library.copy_from(state);
+        self.paper.copy_from(state);
+    }
+
+    /// Makes the step on both sides; whether answer and every place agree.
+    fn agree(&mut self, step: Step) -> bool {
+        let answer = step.make::<Library>(self.library.lent());
+        let expected = step.make::<Paper>(self.paper.lent());
+        answer == expected && self.library == self.paper
+    }
+}
+
+impl Case for StepCase {
+    fn difference(&self) -> Option<String> {
+        let mut pair = Pair::of(&self.state);
+        let answer = self.step.make::<Library>(pair.library.lent());
+        let expected = self.step.make::<Paper>(pair.paper.lent());
+        if answer != expected {
+            return Some(format!("answer: library {answer:#X}, paper {expected:#X}"));
+        }
+        difference("state", &pair.library, &pair.paper)
+    }
+
+    fn shorter(&self) -> Vec<StepCase> {
+        let step = self.step;
+        let states = states::shorter(&self.state).into_iter();
+        let nearer = states.map(|state| StepCase { state, step });
+        let steps = step.shorter().into_iter();
+        let lesser = steps.map(|step| StepCase {
+            state: self.state.clone(),
+            step,
+        });
+        nearer.chain(lesser).collect()
+    }
+}
+
+impl fmt::Display for StepCase {
+    fn fmt(&self, out: &mut fmt::Formatter) -> fmt::Result {
+        let state = states::describe(&self.state);
+        match self.step {
+            Step::Word(word) => write!(out, "word {word:04X} from {state}"),
+            step => write!(out, "{step:?} from {state}"),
+        }
+    }
+}
+
+/// Compares some steps, each from the same state.
+fn steps_from(state: &[u16], steps: impl Iterator<Item = Step>) -> Counted {
+    let given = Buffer::holding(state, MARGIN);
+    let mut pair = Pair::of(state);
+    let mut count = 0;
+    for step in steps {
+        pair.reset(&given);
+        if !pair.agree(step) {
+            let state = state.to_vec();
+            return Err(failure(StepCase { state, step }));
+        }
+        count += 1;
+    }
+    Ok(count)
+}
+
+fn all_words() -> impl Iterator<Item = Step> {
+    (0..=u16::MAX).map(Step::Word)
+}
+
+/// All words from every limit and from many states of each sort.
+pub fn words_from_states(random: &mut Random, times: u32) -> Counted {
+    let mut count = 0;
+    for state in states::at_limits(&states::power_on()) {
+        count += steps_from(&state, all_words())?;
+    }
+    for _ in 0..times {
+        for state in states::at_limits(&states::in_range(random)) {
+            count += steps_from(&state, words_of_each_kind(random).into_iter())?;
+        }
+        for _ in 0..150 {
+            count += steps_from(&states::in_range(random), all_words())?;
+        }
+        for _ in 0..20 {
+            count += steps_from(&states::damaged(random), all_words())?;
+            count += steps_from(&states::arbitrary(random), all_words())?;
+        }
+    }
+    Ok(count)
+}
+
+/// Some words of each of the 64 identifiers.
+fn words_of_each_kind(random: &mut Random) -> Vec<Step> {
+    let words = (0..64).flat_map(|identifier| [identifier << 10; 8]);
+    let words = words.map(|word| word | random.within(0, 0x3FF) as u16);
+    words.map(Step::Word).collect()
+}
+
+/// Range, tick and power-on with every number at every place.
+pub fn every_number(random: &mut Random, times: u32) -> Counted {
+    let mut count = 0;
+    let mut bases = vec![states::power_on()];
+    bases.extend((0..2 * times).map(|_| states::in_range(random)));
+    for base in bases {
+        for place in 0..STATE_LENGTH {
+            count += every_number_at(&base, place)?;
+        }
+    }
+    Ok(count)
+}
+
+fn every_number_at(base: &states::Numbers, place: usize) -> Counted {
+    let mut state = *base;
+    let mut count = 0;
+    for number in 0..=u16::MAX {
+        state[place] = number;
+        count += steps_from(&state, [Step::InRange, Step::Tick].into_iter())?;
+    }
+    count += steps_from(&state, [Step::PowerOn].into_iter())?;
+    Ok(count)
+}
+
+/// States of every length, right and wrong.
+pub fn state_lengths(random: &mut Random, times: u32) -> Counted {
+    let mut count = 0;
+    for _ in 0..200 * times {
+        for length in 0..=LONGEST_STATE {
+            count += state_of_length(random, length)?;
+        }
+    }
+    Ok(count)
+}
+
+fn state_of_length(random: &mut Random, length: usize) -> Counted {
+    let numbers = states::any(random);
+    let state: Vec<u16> = numbers.into_iter().cycle().take(length).collect();
+    let word = Step::Word(random.number());
+    let steps = [Step::PowerOn, Step::InRange, word, Step::Tick];
+    steps_from(&state, steps.into_iter())
+}
+
+/// Long runs of words and ticks, each step compared.
+pub fn runs(random: &mut Random, times: u32) -> Counted {
+    let words = Words::new();
+    let mut count = 0;
+    for _ in 0..4000 * times {
+        let start = match random.below(2) {
+            0 => states::power_on(),
+            _ => states::in_range(random),
+        };
+        count += run(random, &words, &start, 4000)?;
+    }
+    Ok(count)
+}
+
+fn run(random: &mut Random, words: &Words, start: &states::Numbers, length: usize) -> Counted {
+    let mut pair = Pair::of(start);
+    let mut before = pair.library.clone();
+    let mut ticks = 0;
+    for _ in 0..length {
+        before.copy_from(&pair.library);
+        let step = next_step(random, words, &mut ticks, before.values());
+        if !pair.agree(step) {
+            let state = before.values().to_vec();
+            return Err(failure(StepCase { state, step }));
+        }
+    }
+    Ok(length as u64)
+}
+
+/// A tick while any are left to pass, else a word, and new ticks to pass.
+fn next_step(random: &mut Random, words: &Words, ticks: &mut usize, state: &[u16]) -> Step {
+    if *ticks > 0 {
+        *ticks -= 1;
+        return Step::Tick;
+    }
+    *ticks = match random.below(64) {
+        0 => random.below(3000),
+        1..=4 => random.below(200),
+        5..=31 => random.below(4),
+        _ => 0,
+    };
+    Step::Word(words.likely(random, state[place::SET_WORDS]))
+}
