@@ -44,3 +44,8 @@ pub use blocks::*;
 pub use plan::*;
 pub use state::*;
 pub use words::*;
+
+/// The example in the README.
+#[cfg(all(doctest, feature = "translate"))]
+#[doc = include_str!("../../README.md")]
+struct Readme;
