@@ -1,17 +1,15 @@
 -- Many ticks in one step: the ways through the code.
 -- Assumes nothing.
 use mathlib.Core.Path.{_≡_, refl}
-use mathlib.Core.Bool.{true, false}
+use mathlib.Core.Bool.{false}
 use Prim.Native.Nat.{ℕ, zero, suc, _-_, _≤_, _<_}
 use native.Mathlib.Omega.{arith}
 use borrow.Author.Tests.{lt-ltb, le-ltb, le-leb, lt-leb}
-use lib.Dec.{ltb, leb}
 use Rattle.head.specs.Range.{inRange}
 use Rattle.head.specs.State.{noFlags}
 use Rattle.head.specs.Tick.{tickOf, ticksOf}
 use Rattle.head.specs.Ticks.{endsWithin, workLeft, elapsed}
 use Rattle.head.specs.declared.state.Flags.{Flags}
-use Rattle.head.specs.declared.state.Motion.{Motion}
 use Rattle.head.specs.declared.state.Work.{Work}
 use Rattle.head.specs.declared.state.Task.the-variants.{Idle}
 use Rattle.head.specs.declared.state.Head.{Head}

@@ -2,7 +2,7 @@
 -- Assumes nothing.
 use mathlib.Core.Path.{_≡_, refl, sym, ap, _∙_}
 use mathlib.Core.Bool.{Bool, true, false, cond, _&&_}
-use mathlib.Core.List.{List, [], _∷_, _++_, map}
+use mathlib.Core.List.{List, [], _∷_, map}
 use Prim.Native.Nat.{ℕ, _≤_}
 use native.Mathlib.Omega.{arith}
 use lib.Dec.{leb}
@@ -16,8 +16,7 @@ use Rattle.plan.proofs.Accepted.{accepted-fit, accepted-few}
 use Rattle.schedule.specs.Filled.{ordersIn}
 use Rattle.schedule.specs.Schedule.{Timed, Schedule, scheduleFrom, Rising}
 use Rattle.schedule.specs.Translate.{fit, scheduleOf, answerOfPlan, translateOf, filled, tickList, wordList}
-use Rattle.schedule.specs.declared.Translated.{Translated}
-use Rattle.schedule.specs.declared.Translated.the-variants.{Done, Refused, Short}
+use Rattle.schedule.specs.declared.Translated.the-variants.{Done, Short}
 use Rattle.schedule.proofs.Plans.{plan-earliest, plan-rising, plan-count, plan-end}
 use Rattle.run.specs.Claim.{paired, Demands}
 use Rattle.run.proofs.Whole.{run-whole}

@@ -1,6 +1,6 @@
 -- The ways through `rehearse`, and what its answer says of the head.
 -- Assumes nothing.
-use mathlib.Core.Path.{_≡_, refl, sym, ap, _∙_}
+use mathlib.Core.Path.{_≡_, refl, ap, _∙_}
 use mathlib.Core.List.{List}
 use Prim.Native.Nat.{ℕ, _≤_}
 use lib.ListN.{length, take}
@@ -9,7 +9,7 @@ use Rattle.plan.specs.Reading.{settingsRead}
 use Rattle.plan.specs.Stored.{planOf}
 use Rattle.schedule.specs.Filled.{ordersIn}
 use Rattle.schedule.specs.Schedule.{Timed, Rising}
-use Rattle.schedule.specs.Translate.{scheduleOf, translateOf, filled, tickList, wordList}
+use Rattle.schedule.specs.Translate.{scheduleOf, filled, tickList, wordList}
 use Rattle.schedule.specs.declared.Translated.{Translated}
 use Rattle.schedule.proofs.Translating.{Told}
 use Rattle.run.specs.Run.{headAfter}

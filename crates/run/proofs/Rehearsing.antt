@@ -10,8 +10,7 @@ use native.Mathlib.Omega.{arith}
 use borrow.Author.Tests.{ne-eqb}
 use lib.ListN.{length, take, drop, getD, length-take, drop-of-length-le}
 use lib.Seq.{drop-cons, getD-take}
-use Rattle.head.specs.Word.{answerOf}
-use Rattle.head.specs.Tick.{tickOf, ticksOf}
+use Rattle.head.specs.Tick.{ticksOf}
 use Rattle.head.specs.declared.state.Head.{Head}
 use Rattle.schedule.specs.Schedule.{Timed, Rising}
 use Rattle.run.specs.Run.{wordAt, answered, next, headAfter}
@@ -28,7 +27,8 @@ paired-long [] ws = omega arith
 paired-long (t ∷ ts) [] = omega arith
 paired-long (t ∷ ts) (w ∷ ws) = omega (arith, paired-long ts ws)
 
-paired-at : (i : ℕ) (ts ws : List ℕ) → i < length ts → i < length ws → getD (paired ts ws) i (timed 0 0) ≡ timed (getD ts i 0) (getD ws i 0)
+paired-at : (i : ℕ) (ts ws : List ℕ) → i < length ts → i < length ws
+    → getD (paired ts ws) i (timed 0 0) ≡ timed (getD ts i 0) (getD ws i 0)
 unfolding paired
 paired-at i [] ws p q = absurd (omega arith)
 paired-at i (t ∷ ts) [] p q = absurd (omega arith)
@@ -92,7 +92,12 @@ module _ {words ticks : List ℕ} {count end : ℕ} {head : Head} where
           let p : i < length (take count ticks) = let room = h .roomTicks in omega (arith, length-take count ticks) in
           let q : i < length (take count words) = let room = h .roomWords in omega (arith, length-take count words) in
           drop-cons list i (timed 0 0) (rw long more)
-          ∙ rw (paired-at i (take count ticks) (take count words) p q, getD-take count ticks i 0 more, getD-take count words i 0 more, ← add-one i)
+          ∙ rw (
+            paired-at i (take count ticks) (take count words) p q,
+            getD-take count ticks i 0 more,
+            getD-take count words i 0 more,
+            ← add-one i,
+          )
 
       rises : Rising clock (timed (getD ticks i 0) (getD words i 0) ∷ drop (i + 1) list) end
       rises = rw split at (h .rising)

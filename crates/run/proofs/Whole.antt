@@ -15,7 +15,7 @@ use Rattle.words.specs.Kinds.{allowed}
 use Rattle.words.specs.Codec.{wordOf}
 use Rattle.words.proofs.Tests.{and-right}
 use Rattle.head.specs.Range.{inRange}
-use Rattle.head.specs.Apply.{after, settingsAfter, motionAfter, actOf}
+use Rattle.head.specs.Apply.{after, actOf}
 use Rattle.head.specs.Word.{outOfTurn, answerOf}
 use Rattle.head.specs.Tick.{tickOf, ticksOf}
 use Rattle.head.specs.declared.state.Head.{Head}

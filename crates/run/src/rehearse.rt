@@ -26,7 +26,8 @@ fn give(head: Head, wait: u32, word: u16) -> Head
 
 // The head at the end, after the first words of a list, each given at its tick.
 fn run_words(head: Head, words: &[u16], ticks: &[u32], count: usize, end: u32) -> Head
-    requires { ⌜ count ≤ length (now words) ⌝ ∗ ⌜ count ≤ length (now ticks) ⌝ ∗ ⌜ Rising 0 (paired (take count (now ticks)) (take count (now words))) end ⌝ }
+    requires { ⌜ count ≤ length (now words) ⌝ ∗ ⌜ count ≤ length (now ticks) ⌝ }
+    requires { ⌜ Rising 0 (paired (take count (now ticks)) (take count (now words))) end ⌝ }
     ensures { λ r. ⌜ r ≡ headAfter end 0 (paired (take count (now (ticks .entry))) (take count (now (words .entry)))) head ⌝ }
 {
     let mut state = head;

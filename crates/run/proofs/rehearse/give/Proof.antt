@@ -16,7 +16,7 @@ tick-requires c κs = search needs
 
 returns : tie.Need-returns
 unfolding next answered
-returns c = cc
+returns c = simp (c .before .tick .ensures, c .before .before .word .ensures, c .before .before .before .pass .ensures)
 
 pub give-spec : {M : Type 1} → statement M
 give-spec = tie.close (tie.spec pass-requires word-requires tick-requires returns)

@@ -3,7 +3,6 @@
 use Prim.Native.Nat.{_-_, _<_, _≤_}
 use native.Mathlib.Omega.{arith}
 use borrow.Author.Needs.{needs}
-use denote.Ref.{now}
 use Rattle.run.proofs.Rehearsing.{Running, running-first, running-ends, running-after, running-before, running-next, running-last}
 use Rattle.run.proofs.rehearse.run_words.Statement.{statement}
 use Rattle.run.proofs.rehearse.run_words.Tie as tie
