@@ -10,16 +10,11 @@ use borrow.Author.Tests.{eqb-true, ltb-false}
 use lib.Dec.{eqb, ltb}
 use lib.ListN.{length, drop}
 use Rattle.plan.specs.Codes.{known, lengthOf, fieldsFit, fit}
-use Rattle.plan.specs.Stored.{Plan, orders, refused, byteAt, pairAt, orderAt, faultAt, before, ordersFrom, mostOrders, planOf}
+use Rattle.plan.specs.Stored.{Plan, orders, refused, ordersIn, byteAt, pairAt, orderAt, faultAt, before, ordersFrom, mostOrders, planOf}
 use Rattle.plan.specs.Judged.{judgedOf}
 use Rattle.plan.specs.declared.order.Order.{Order}
 use Rattle.plan.specs.declared.stored.Judged.the-variants.{Accepted, Refused}
 use Rattle.plan.proofs.Judging.{from-end, from-many, from-fault, from-order}
-
--- the orders of a plan; none where it is refused
-abbrev pub ordersIn : Plan → List Order
-ordersIn (orders os) = os
-ordersIn (refused n p) = []
 
 differ : {A : Type 0} → _≡_ {A = ℕ} 0 1 → A
 differ z = absurd (omega arith)

@@ -15,6 +15,11 @@ pub data Plan : Type 0 where
 abbrev pub byteAt : List ℕ → ℕ → ℕ
 byteAt bs i = getD bs i 0
 
+-- The orders of a plan; none where it is refused.
+abbrev pub ordersIn : Plan → List Order
+ordersIn (orders os) = os
+ordersIn (refused n p) = []
+
 -- Big-endian throughout.
 abbrev pub pairAt : List ℕ → ℕ → ℕ
 pairAt bs i = byteAt bs i * 256 + byteAt bs (i + 1)

@@ -9,11 +9,10 @@ use lib.Dec.{leb}
 use lib.ListN.{length, take, drop, length-map, length-append}
 use lib.Seq.{take-at}
 use Rattle.head.specs.declared.state.Head.{Head}
-use Rattle.plan.specs.Stored.{Plan, orders, refused, planOf}
+use Rattle.plan.specs.Stored.{Plan, orders, refused, planOf, ordersIn}
 use Rattle.plan.specs.Words.{itemsOfAll}
 use Rattle.plan.specs.declared.order.Order.{Order}
 use Rattle.plan.proofs.Accepted.{accepted-fit, accepted-few}
-use Rattle.schedule.specs.Filled.{ordersIn}
 use Rattle.schedule.specs.Schedule.{Timed, Schedule, scheduleFrom, Rising}
 use Rattle.schedule.specs.Translate.{fit, scheduleOf, answerOfPlan, translateOf, filled, tickList, wordList}
 use Rattle.schedule.specs.declared.Translated.the-variants.{Done, Short}

@@ -6,8 +6,7 @@ use Prim.Native.Nat.{ℕ, _≤_}
 use lib.ListN.{length, take}
 use Rattle.head.specs.declared.state.Head.{Head}
 use Rattle.plan.specs.Reading.{settingsRead}
-use Rattle.plan.specs.Stored.{planOf}
-use Rattle.schedule.specs.Filled.{ordersIn}
+use Rattle.plan.specs.Stored.{planOf, ordersIn}
 use Rattle.schedule.specs.Schedule.{Timed, Rising}
 use Rattle.schedule.specs.Translate.{scheduleOf, filled, tickList, wordList}
 use Rattle.schedule.specs.declared.Translated.{Translated}

@@ -5,8 +5,7 @@ use mathlib.Core.Path.{_≡_}
 use mathlib.Core.List.{List}
 use lib.ListN.{take}
 use Rattle.head.specs.declared.state.Head.{Head}
-use Rattle.plan.specs.Stored.{planOf}
-use Rattle.schedule.specs.Filled.{ordersIn}
+use Rattle.plan.specs.Stored.{planOf, ordersIn}
 use Rattle.schedule.specs.Schedule.{Schedule}
 use Rattle.schedule.specs.Translate.{scheduleOf, translateOf}
 use Rattle.schedule.specs.declared.Translated.{Translated}

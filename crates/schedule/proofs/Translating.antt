@@ -11,14 +11,14 @@ use lib.Dec.{leb}
 use lib.ListN.{length, drop, length-map, length-append}
 use lib.Seq.{sets, sets-eq}
 use Rattle.head.specs.declared.state.Head.{Head}
-use Rattle.plan.specs.Stored.{Plan, orders, refused, planOf}
+use Rattle.plan.specs.Stored.{Plan, orders, refused, planOf, ordersIn}
 use Rattle.plan.specs.Words.{itemsOfAll, wordsOf}
 use Rattle.plan.specs.Judged.{judgedOf}
 use Rattle.plan.specs.declared.order.Order.{Order}
 use Rattle.plan.specs.declared.stored.Judged.{Judged}
 use Rattle.plan.proofs.Accepted.{judged-accepted, judged-count, judged-refused, accepted-fit}
 use Rattle.schedule.specs.Clock.{Near, clockOf, clockedFrom, clockThrough}
-use Rattle.schedule.specs.Filled.{ordersIn, timedBy, wordTotal, refusalOf}
+use Rattle.schedule.specs.Filled.{timedBy, wordTotal, refusalOf}
 use Rattle.schedule.specs.Schedule.{Timed, Schedule}
 use Rattle.schedule.specs.Translate.{fit, scheduleOf, answerOfPlan, translateOf, filled, tickList, wordList}
 use Rattle.schedule.specs.declared.Translated.{Translated}

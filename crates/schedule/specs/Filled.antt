@@ -4,7 +4,6 @@ use mathlib.Core.List.{List, [], _∷_}
 use Prim.Native.Nat.{ℕ, _+_}
 use lib.ListN.{length}
 use Rattle.plan.specs.Words.{wordsOf, itemsOf, itemsOfAll}
-use Rattle.plan.specs.Stored.{Plan, orders, refused}
 use Rattle.plan.specs.declared.order.Order.{Order}
 use Rattle.plan.specs.declared.stored.Judged.{Judged}
 use Rattle.schedule.specs.declared.Translated.{Translated}
@@ -16,11 +15,6 @@ use Rattle.schedule.specs.declared.clock.Clock.{Clock}
 -- The ticks of an order's words.
 abbrev pub orderTicks : Clock → Order → List ℕ
 orderTicks c o = tickList (clockedFrom c (itemsOf o))
-
--- The orders of a plan; none where it is refused.
-abbrev pub ordersIn : Plan → List Order
-ordersIn (orders os) = os
-ordersIn (refused n p) = []
 
 -- The schedule of orders from a clock on.
 abbrev pub timedBy : Clock → List Order → Schedule

@@ -13,9 +13,9 @@ ghost use mathlib.Core.Path.{_≡_};
 ghost use Prim.Native.Nat.{_≤_};
 ghost use lib.ListN.{length};
 ghost use lib.Seq.{sets};
-ghost use Rattle.plan.specs.Stored.{orders, planOf};
+ghost use Rattle.plan.specs.Stored.{orders, planOf, ordersIn};
 ghost use Rattle.schedule.specs.Clock.{Near};
-ghost use Rattle.schedule.specs.Filled.{ordersIn, timedBy, wordTotal, refusalOf};
+ghost use Rattle.schedule.specs.Filled.{timedBy, wordTotal, refusalOf};
 ghost use Rattle.schedule.specs.Translate.{fit, translateOf, scheduleOf, filled, tickList, wordList};
 
 // How many words the orders of an accepted plan have.

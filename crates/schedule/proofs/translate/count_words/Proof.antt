@@ -4,8 +4,7 @@ use Prim.Native.Nat.{_-_}
 use native.Mathlib.Omega.{arith}
 use borrow.Author.Needs.{needs}
 use denote.Ref.{now}
-use Rattle.plan.specs.Stored.{planOf}
-use Rattle.schedule.specs.Filled.{ordersIn}
+use Rattle.plan.specs.Stored.{planOf, ordersIn}
 use Rattle.schedule.proofs.Counting.{Counting, counting-first, counting-next, counted-all}
 use Rattle.schedule.proofs.translate.count_words.Statement.{statement}
 use Rattle.schedule.proofs.translate.count_words.Tie as tie

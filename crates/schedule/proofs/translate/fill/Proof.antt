@@ -5,8 +5,7 @@ use lib.ListN.{length}
 use native.Mathlib.Omega.{arith}
 use borrow.Author.Needs.{needs}
 use denote.Ref.{now}
-use Rattle.plan.specs.Stored.{planOf}
-use Rattle.schedule.specs.Filled.{ordersIn}
+use Rattle.plan.specs.Stored.{planOf, ordersIn}
 use Rattle.schedule.proofs.Walking.{walking-sound}
 use Rattle.schedule.proofs.Filling.{Filling, filling-first, filling-fits, filling-early, filling-words, filling-ticks, filling-next, filled-words, filled-ticks, filled-end}
 use Rattle.schedule.proofs.translate.fill.Statement.{statement}
