@@ -1,8 +1,6 @@
 //! The workloads, each ready to run on either side.
 
-#[cfg(feature = "blocks")]
 use crate::workloads::blocks;
-#[cfg(feature = "translate")]
 use crate::workloads::plans;
 use crate::workloads::{GivenWords, MixedRun, Ticks, Workload};
 use compare::sides::{Library, Paper};
@@ -70,23 +68,14 @@ const ALL: &[(&str, Prepare)] = &[
     (GivenWords::NAME, Measured::of::<GivenWords>),
     (Ticks::NAME, Measured::of::<Ticks>),
     (MixedRun::NAME, Measured::of::<MixedRun>),
-    #[cfg(feature = "translate")]
     (plans::One::NAME, Measured::of::<plans::One>),
-    #[cfg(feature = "translate")]
     (plans::Eight::NAME, Measured::of::<plans::Eight>),
-    #[cfg(feature = "translate")]
     (plans::Full::NAME, Measured::of::<plans::Full>),
-    #[cfg(feature = "translate")]
     (plans::LongWaits::NAME, Measured::of::<plans::LongWaits>),
-    #[cfg(feature = "translate")]
     (plans::MostWords::NAME, Measured::of::<plans::MostWords>),
-    #[cfg(feature = "blocks")]
     (blocks::WriteIr::NAME, Measured::of::<blocks::WriteIr>),
-    #[cfg(feature = "blocks")]
     (blocks::WriteCcd::NAME, Measured::of::<blocks::WriteCcd>),
-    #[cfg(feature = "blocks")]
     (blocks::ReadIr::NAME, Measured::of::<blocks::ReadIr>),
-    #[cfg(feature = "blocks")]
     (blocks::ReadCcd::NAME, Measured::of::<blocks::ReadCcd>),
 ];
 

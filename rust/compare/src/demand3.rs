@@ -135,7 +135,7 @@ impl Case for DemandCase {
 
     fn shorter(&self) -> Vec<DemandCase> {
         let states = states::shorter(&self.state.numbers).into_iter();
-        let states = states.filter_map(|state| Some(state.try_into().ok()?));
+        let states = states.filter_map(|state| state.try_into().ok());
         let nearer = states.map(|numbers| DemandCase {
             state: State { numbers },
             plan: self.plan.clone(),

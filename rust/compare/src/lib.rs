@@ -9,15 +9,11 @@
 //! | [`reduce`] | a failing case made short |
 //! | the others | the comparisons |
 
-#[cfg(feature = "blocks")]
 pub mod blocks;
 pub mod buffer;
 pub mod codec;
-#[cfg(feature = "translate")]
 pub mod demand3;
-#[cfg(feature = "translate")]
 pub mod orders;
-#[cfg(feature = "translate")]
 pub mod plans;
 pub mod random;
 pub mod reduce;

@@ -5,7 +5,7 @@
 
 use compare::random::Random;
 use compare::reduce::{Counted, Failure};
-use compare::{codec, steps};
+use compare::{blocks, codec, demand3, plans, steps};
 use std::process::ExitCode;
 use std::time::{Instant, SystemTime, UNIX_EPOCH};
 
@@ -21,22 +21,14 @@ const PARTS: &[Part] = &[
     ("every number of a state", steps::every_number),
     ("state lengths", steps::state_lengths),
     ("runs of words and ticks", steps::runs),
-    #[cfg(feature = "translate")]
-    ("plan fields", compare::plans::fields),
-    #[cfg(feature = "translate")]
-    ("plan forms", compare::plans::forms),
-    #[cfg(feature = "translate")]
-    ("damaged plans", compare::plans::damaged),
-    #[cfg(feature = "translate")]
-    ("plans, states, buffers", compare::plans::mixed),
-    #[cfg(feature = "translate")]
-    ("demand 3", compare::demand3::random_plans),
-    #[cfg(feature = "blocks")]
-    ("blocks written", compare::blocks::written),
-    #[cfg(feature = "blocks")]
-    ("blocks read", compare::blocks::read),
-    #[cfg(feature = "blocks")]
-    ("block lengths", compare::blocks::lengths),
+    ("plan fields", plans::fields),
+    ("plan forms", plans::forms),
+    ("damaged plans", plans::damaged),
+    ("plans, states, buffers", plans::mixed),
+    ("demand 3", demand3::random_plans),
+    ("blocks written", blocks::written),
+    ("blocks read", blocks::read),
+    ("block lengths", blocks::lengths),
 ];
 
 struct Options {

@@ -7,10 +7,6 @@ extern "C" {
     pub fn shabgozim_tick(state: *mut u16, state_len: usize) -> u32;
     pub fn shabgozim_decode(word: u16) -> u32;
     pub fn shabgozim_encode(kind: u8, data: u16) -> u32;
-}
-
-#[cfg(feature = "translate")]
-extern "C" {
     pub fn shabgozim_translate(
         state: *const u16,
         state_len: usize,
@@ -21,10 +17,6 @@ extern "C" {
         ticks: *mut u32,
         ticks_len: usize,
     ) -> u64;
-}
-
-#[cfg(feature = "blocks")]
-extern "C" {
     pub fn shabgozim_write_ir(
         state: *const u16,
         state_len: usize,

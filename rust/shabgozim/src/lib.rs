@@ -5,8 +5,8 @@
 //! |---|---|
 //! | [`decode`], [`encode`], [`kind`] | the 28 kinds of command word |
 //! | [`State`], [`place`] | a head's state, and what it makes of words and ticks |
-//! | `schedule`, `translate` | a stored plan turned into timed words |
-//! | `write_ir`, `read_ir`, `write_ccd`, `read_ccd` | the two housekeeping blocks |
+//! | [`schedule`], [`translate`] | a stored plan turned into timed words |
+//! | [`write_ir`], [`read_ir`], [`write_ccd`], [`read_ccd`] | the two housekeeping blocks |
 //! | [`raw`] | the same functions over slices, answers still packed |
 //!
 //! Every answer is the one that document 01 gives, for any input; what the
@@ -28,24 +28,19 @@
 //! assert!(!head.is_at_rest());
 //! ```
 
+mod blocks;
 mod ffi;
+mod plan;
 pub mod raw;
 mod state;
 mod words;
 
-#[cfg(feature = "blocks")]
-mod blocks;
-#[cfg(feature = "translate")]
-mod plan;
-
-#[cfg(feature = "blocks")]
 pub use blocks::*;
-#[cfg(feature = "translate")]
 pub use plan::*;
 pub use state::*;
 pub use words::*;
 
 /// The example in the README.
-#[cfg(all(doctest, feature = "translate"))]
+#[cfg(doctest)]
 #[doc = include_str!("../../README.md")]
 struct Readme;

@@ -45,7 +45,6 @@ pub fn encode(kind: u8, data: u16) -> u32 {
 
 /// Translates a plan. Bits 0 to 7: number (0, or 1 to 10); 8 to 23: count;
 /// 32 to 63: the end, or the place of a refusal.
-#[cfg(feature = "translate")]
 pub fn translate(state: &[u16], plan: &[u8], words: &mut [u16], ticks: &mut [u32]) -> u64 {
     // SAFETY: as above, for four slices.
     unsafe {
@@ -63,7 +62,6 @@ pub fn translate(state: &[u16], plan: &[u8], words: &mut [u16], ticks: &mut [u32
 }
 
 /// Writes the IR block: 0, 11 or 21.
-#[cfg(feature = "blocks")]
 pub fn write_ir(
     state: &[u16],
     flags: u32,
@@ -89,7 +87,6 @@ pub fn write_ir(
 }
 
 /// Writes the CCD block: 0, 11 or 21.
-#[cfg(feature = "blocks")]
 pub fn write_ccd(
     state: &[u16],
     flags: u32,
@@ -115,7 +112,6 @@ pub fn write_ccd(
 }
 
 /// Reads an IR block: number in bits 0 to 7, place above.
-#[cfg(feature = "blocks")]
 pub fn read_ir(block: &[u16], meaning: &mut [u16]) -> u32 {
     // SAFETY: as above, for two slices.
     unsafe {
@@ -129,7 +125,6 @@ pub fn read_ir(block: &[u16], meaning: &mut [u16]) -> u32 {
 }
 
 /// Reads a CCD block: number in bits 0 to 7, place above.
-#[cfg(feature = "blocks")]
 pub fn read_ccd(block: &[u16], meaning: &mut [u16]) -> u32 {
     // SAFETY: as above, for two slices.
     unsafe {

@@ -245,7 +245,6 @@ impl ErrorFlags {
     }
 
     /// The inverse of `of`.
-    #[cfg(feature = "blocks")]
     pub(crate) fn bits(self) -> u32 {
         u32::from(self.ir_time)
             | u32::from(self.ir_word) << 1

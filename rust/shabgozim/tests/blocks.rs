@@ -1,5 +1,4 @@
 //! The two housekeeping blocks through the wrapper.
-#![cfg(feature = "blocks")]
 
 use shabgozim::{
     place, read_ccd, read_ir, write_ccd, write_ir, BlockRefusal, CcdInputs, ErrorFlags, IrInputs,

@@ -1,5 +1,4 @@
 //! Document 01's plans through the wrapper.
-#![cfg(feature = "translate")]
 
 use shabgozim::{schedule, translate, PlanRefusal, Schedule, State, Translation};
 

@@ -1,6 +1,5 @@
 //! The verified library, through its wrapper.
 
-#[cfg(feature = "blocks")]
 use super::Shown;
 use super::Side;
 use shabgozim::raw;
@@ -32,27 +31,22 @@ impl Side for Library {
         raw::encode(kind, data)
     }
 
-    #[cfg(feature = "translate")]
     fn translate(state: &[u16], plan: &[u8], words: &mut [u16], ticks: &mut [u32]) -> u64 {
         raw::translate(state, plan, words, ticks)
     }
 
-    #[cfg(feature = "blocks")]
     fn write_ir(state: &[u16], shown: Shown, readings: &[u16], block: &mut [u16]) -> u32 {
         raw::write_ir(state, shown.flags, shown.ended, shown.bits, readings, block)
     }
 
-    #[cfg(feature = "blocks")]
     fn write_ccd(state: &[u16], shown: Shown, readings: &[u16], block: &mut [u16]) -> u32 {
         raw::write_ccd(state, shown.flags, shown.ended, shown.bits, readings, block)
     }
 
-    #[cfg(feature = "blocks")]
     fn read_ir(block: &[u16], meaning: &mut [u16]) -> u32 {
         raw::read_ir(block, meaning)
     }
 
-    #[cfg(feature = "blocks")]
     fn read_ccd(block: &[u16], meaning: &mut [u16]) -> u32 {
         raw::read_ccd(block, meaning)
     }

@@ -3,6 +3,7 @@
 
 mod library;
 mod paper;
+mod paper_blocks;
 
 pub use library::Library;
 pub use paper::Paper;
@@ -15,21 +16,15 @@ pub trait Side {
     fn decode(word: u16) -> u32;
     fn encode(kind: u8, data: u16) -> u32;
 
-    #[cfg(feature = "translate")]
     fn translate(state: &[u16], plan: &[u8], words: &mut [u16], ticks: &mut [u32]) -> u64;
 
-    #[cfg(feature = "blocks")]
     fn write_ir(state: &[u16], shown: Shown, readings: &[u16], block: &mut [u16]) -> u32;
-    #[cfg(feature = "blocks")]
     fn write_ccd(state: &[u16], shown: Shown, readings: &[u16], block: &mut [u16]) -> u32;
-    #[cfg(feature = "blocks")]
     fn read_ir(block: &[u16], meaning: &mut [u16]) -> u32;
-    #[cfg(feature = "blocks")]
     fn read_ccd(block: &[u16], meaning: &mut [u16]) -> u32;
 }
 
 /// What a writer is given besides state and readings.
-#[cfg(feature = "blocks")]
 #[derive(Clone, Copy, Debug, Default, PartialEq, Eq)]
 pub struct Shown {
     pub flags: u32,
