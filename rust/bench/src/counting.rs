@@ -1,6 +1,6 @@
 //! Instructions per call, counted by valgrind's callgrind.
 
-use crate::measured::{Measured, Which};
+use crate::measured::{Row, Which};
 use std::path::PathBuf;
 use std::process::{Command, Stdio};
 use std::{env, fs, io};
@@ -9,25 +9,25 @@ use std::{env, fs, io};
 pub const ONE_PASS: &str = "--one-pass";
 
 /// Counts the instructions of one pass, within the measured functions only.
-pub fn instructions(measured: &Measured, which: Which) -> io::Result<f64> {
+pub fn instructions(row: &Row, which: Which) -> io::Result<u64> {
     let counts = counts_file();
     let mut valgrind = Command::new("valgrind");
     valgrind
         .arg("--tool=callgrind")
         .arg(format!("--callgrind-out-file={}", counts.display()));
-    for function in measured.functions {
+    for function in row.functions {
         valgrind.arg(format!("--toggle-collect={}{function}", which.prefix()));
     }
     valgrind
         .arg(env::current_exe()?)
-        .args([ONE_PASS, measured.name, which.name()])
+        .args([ONE_PASS, row.name, which.name()])
         .stdout(Stdio::null())
         .stderr(Stdio::null());
     let status = valgrind.status()?;
     let text = fs::read_to_string(&counts)?;
     fs::remove_file(&counts)?;
     match total(&text) {
-        Some(total) if status.success() && total > 0 => Ok(total as f64 / measured.calls as f64),
+        Some(total) if status.success() && total > 0 => Ok(total),
         _ => Err(io::Error::other("callgrind counted nothing")),
     }
 }

@@ -7,7 +7,8 @@ mod timing;
 mod workloads;
 
 use counting::ONE_PASS;
-use measured::{Measured, Which};
+use measured::{Row, Which, ROWS};
+use std::io;
 use std::process::ExitCode;
 
 fn main() -> ExitCode {
@@ -25,21 +26,22 @@ fn main() -> ExitCode {
 
 fn one_pass(name: &str, which: &str) -> ExitCode {
     let which = Which::BOTH.into_iter().find(|it| it.name() == which);
-    let (Some(which), Some(mut measured)) = (which, measured::named(name)) else {
+    let row = ROWS.iter().find(|row| row.name == name);
+    let (Some(which), Some(row)) = (which, row) else {
         return ExitCode::from(2);
     };
-    std::hint::black_box(measured.pass(which));
+    std::hint::black_box((row.prepare)().pass(which));
     ExitCode::SUCCESS
 }
 
 fn report() -> ExitCode {
     println!("| call | instructions: library | paper | ratio | time ratio (quartiles) | ns: library | paper |");
     println!("|---|---:|---:|---:|---:|---:|---:|");
-    for mut measured in measured::all() {
-        match row(&mut measured) {
-            Ok(row) => println!("{row}"),
+    for row in ROWS {
+        match line(row) {
+            Ok(line) => println!("{line}"),
             Err(error) => {
-                eprintln!("{}: {error}", measured.name);
+                eprintln!("{}: {error}", row.name);
                 return ExitCode::FAILURE;
             }
         }
@@ -47,18 +49,20 @@ fn report() -> ExitCode {
     ExitCode::SUCCESS
 }
 
-fn row(measured: &mut Measured) -> Result<String, String> {
-    if measured.pass(Which::Library) != measured.pass(Which::Paper) {
-        return Err("the two sides answer differently".into());
+/// A line of the table.
+fn line(row: &Row) -> io::Result<String> {
+    let mut prepared = (row.prepare)();
+    if prepared.pass(Which::Library) != prepared.pass(Which::Paper) {
+        return Err(io::Error::other("the two sides answer differently"));
     }
-    let [ours, theirs] = Which::BOTH.map(|which| counting::instructions(measured, which));
-    let ours = ours.map_err(|error| error.to_string())?;
-    let theirs = theirs.map_err(|error| error.to_string())?;
-    let times = timing::times(measured);
+    let per_call = |count| count as f64 / prepared.calls as f64;
+    let ours = per_call(counting::instructions(row, Which::Library)?);
+    let theirs = per_call(counting::instructions(row, Which::Paper)?);
+    let times = timing::times(&mut prepared);
     let [median, first, third] = times.ratio;
     Ok(format!(
         "| {} | {ours:.1} | {theirs:.1} | {:.2} | {median:.2} ({first:.2}-{third:.2}) | {:.1} | {:.1} |",
-        measured.name,
+        row.name,
         ours / theirs,
         times.library,
         times.paper,

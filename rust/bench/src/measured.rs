@@ -1,8 +1,8 @@
 //! The workloads, each ready to run on either side.
 
-use crate::workloads::blocks;
-use crate::workloads::plans;
-use crate::workloads::{GivenWords, MixedRun, Ticks, Workload};
+use crate::workloads::{GivenWords, MixedRun, ReadBlocks, Ticks};
+use crate::workloads::{Translations, Workload, WrittenBlocks};
+use compare::blocks::Block;
 use compare::sides::{Library, Paper};
 
 /// One of the two implementations.
@@ -31,20 +31,24 @@ impl Which {
     }
 }
 
-/// A workload with its inputs.
-pub struct Measured {
+/// A row of the table. Inputs are made when they are needed and not before,
+/// since some are made by the functions that are measured.
+pub struct Row {
     pub name: &'static str,
+    /// The functions, without their prefix.
     pub functions: &'static [&'static str],
+    pub prepare: fn() -> Prepared,
+}
+
+/// A workload with its inputs.
+pub struct Prepared {
     pub calls: usize,
     pass: Box<dyn FnMut(Which) -> u64>,
 }
 
-impl Measured {
-    fn of<W: Workload + 'static>() -> Measured {
-        let mut workload = W::new();
-        Measured {
-            name: W::NAME,
-            functions: W::FUNCTIONS,
+impl Prepared {
+    fn of(mut workload: impl Workload + 'static) -> Prepared {
+        Prepared {
             calls: workload.calls(),
             pass: Box::new(move |which| match which {
                 Which::Library => workload.pass::<Library>(),
@@ -59,31 +63,66 @@ impl Measured {
     }
 }
 
-/// Makes a workload's inputs; not before it is needed, since some of them
-/// are made by the functions that are measured.
-type Prepare = fn() -> Measured;
-
-/// Everything that is measured, in the order of the table.
-const ALL: &[(&str, Prepare)] = &[
-    (GivenWords::NAME, Measured::of::<GivenWords>),
-    (Ticks::NAME, Measured::of::<Ticks>),
-    (MixedRun::NAME, Measured::of::<MixedRun>),
-    (plans::One::NAME, Measured::of::<plans::One>),
-    (plans::Eight::NAME, Measured::of::<plans::Eight>),
-    (plans::Full::NAME, Measured::of::<plans::Full>),
-    (plans::LongWaits::NAME, Measured::of::<plans::LongWaits>),
-    (plans::MostWords::NAME, Measured::of::<plans::MostWords>),
-    (blocks::WriteIr::NAME, Measured::of::<blocks::WriteIr>),
-    (blocks::WriteCcd::NAME, Measured::of::<blocks::WriteCcd>),
-    (blocks::ReadIr::NAME, Measured::of::<blocks::ReadIr>),
-    (blocks::ReadCcd::NAME, Measured::of::<blocks::ReadCcd>),
+/// Everything that is measured.
+pub const ROWS: &[Row] = &[
+    Row {
+        name: "word",
+        functions: &["word"],
+        prepare: || Prepared::of(GivenWords::new()),
+    },
+    Row {
+        name: "tick",
+        functions: &["tick"],
+        prepare: || Prepared::of(Ticks::new()),
+    },
+    Row {
+        name: "words and ticks mixed",
+        functions: &["word", "tick"],
+        prepare: || Prepared::of(MixedRun::new()),
+    },
+    Row {
+        name: "translate 1 order",
+        functions: &["translate"],
+        prepare: || Prepared::of(Translations::every_code(1, 1)),
+    },
+    Row {
+        name: "translate 8 orders",
+        functions: &["translate"],
+        prepare: || Prepared::of(Translations::every_code(8, 1)),
+    },
+    Row {
+        name: "translate 64 orders, waits of 1 tick",
+        functions: &["translate"],
+        prepare: || Prepared::of(Translations::every_code(64, 1)),
+    },
+    Row {
+        name: "translate 64 orders, waits of 65,535 ticks",
+        functions: &["translate"],
+        prepare: || Prepared::of(Translations::every_code(64, 65535)),
+    },
+    Row {
+        name: "translate 64 mirror orders (256 words)",
+        functions: &["translate"],
+        prepare: || Prepared::of(Translations::most_words()),
+    },
+    Row {
+        name: "write IR block",
+        functions: &["write_ir"],
+        prepare: || Prepared::of(WrittenBlocks::new(Block::Ir)),
+    },
+    Row {
+        name: "write CCD block",
+        functions: &["write_ccd"],
+        prepare: || Prepared::of(WrittenBlocks::new(Block::Ccd)),
+    },
+    Row {
+        name: "read IR block",
+        functions: &["read_ir"],
+        prepare: || Prepared::of(ReadBlocks::new(Block::Ir)),
+    },
+    Row {
+        name: "read CCD block",
+        functions: &["read_ccd"],
+        prepare: || Prepared::of(ReadBlocks::new(Block::Ccd)),
+    },
 ];
-
-pub fn all() -> impl Iterator<Item = Measured> {
-    ALL.iter().map(|(_, prepare)| prepare())
-}
-
-pub fn named(name: &str) -> Option<Measured> {
-    let (_, prepare) = ALL.iter().find(|(it, _)| *it == name)?;
-    Some(prepare())
-}

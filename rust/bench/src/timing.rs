@@ -1,6 +1,6 @@
 //! Wall-clock times, the two sides taking turns.
 
-use crate::measured::{Measured, Which};
+use crate::measured::{Prepared, Which};
 use std::time::{Duration, Instant};
 
 const REPEATS: usize = 401;
@@ -16,11 +16,11 @@ pub struct Times {
 }
 
 /// Times both sides by turns, after a pass of each.
-pub fn times(measured: &mut Measured) -> Times {
-    let passes = passes_needed(measured);
+pub fn times(prepared: &mut Prepared) -> Times {
+    let passes = passes_needed(prepared);
     let (mut library, mut paper, mut ratios) = (Vec::new(), Vec::new(), Vec::new());
     for repeat in 0..REPEATS {
-        let (first, second) = by_turns(measured, passes, repeat % 2 == 0);
+        let (first, second) = by_turns(prepared, passes, repeat % 2 == 0);
         library.push(first);
         paper.push(second);
         ratios.push(first / second);
@@ -33,33 +33,33 @@ pub fn times(measured: &mut Measured) -> Times {
 }
 
 /// Nanoseconds per call of the library and of paper, either one first.
-fn by_turns(measured: &mut Measured, passes: u32, library_first: bool) -> (f64, f64) {
+fn by_turns(prepared: &mut Prepared, passes: u32, library_first: bool) -> (f64, f64) {
     if library_first {
-        let library = per_call(measured, Which::Library, passes);
-        return (library, per_call(measured, Which::Paper, passes));
+        let library = per_call(prepared, Which::Library, passes);
+        return (library, per_call(prepared, Which::Paper, passes));
     }
-    let paper = per_call(measured, Which::Paper, passes);
-    (per_call(measured, Which::Library, passes), paper)
+    let paper = per_call(prepared, Which::Paper, passes);
+    (per_call(prepared, Which::Library, passes), paper)
 }
 
 /// How many passes take long enough to be timed.
-fn passes_needed(measured: &mut Measured) -> u32 {
+fn passes_needed(prepared: &mut Prepared) -> u32 {
     let mut passes = 1;
-    while spent(measured, Which::Paper, passes) < SHORTEST {
+    while spent(prepared, Which::Paper, passes) < SHORTEST {
         passes *= 2;
     }
     passes
 }
 
-fn per_call(measured: &mut Measured, which: Which, passes: u32) -> f64 {
-    let calls = f64::from(passes) * measured.calls as f64;
-    spent(measured, which, passes).as_nanos() as f64 / calls
+fn per_call(prepared: &mut Prepared, which: Which, passes: u32) -> f64 {
+    let calls = f64::from(passes) * prepared.calls as f64;
+    spent(prepared, which, passes).as_nanos() as f64 / calls
 }
 
-fn spent(measured: &mut Measured, which: Which, passes: u32) -> Duration {
+fn spent(prepared: &mut Prepared, which: Which, passes: u32) -> Duration {
     let start = Instant::now();
     for _ in 0..passes {
-        std::hint::black_box(measured.pass(which));
+        std::hint::black_box(prepared.pass(which));
     }
     start.elapsed()
 }

@@ -13,8 +13,9 @@ const FILL: u16 = 0xAAAA;
 /// Longer than any block or meaning.
 const ROOM: usize = 72;
 
+/// One of the two blocks.
 #[derive(Clone, Copy, Debug, PartialEq, Eq)]
-enum Block {
+pub enum Block {
     Ir,
     Ccd,
 }
@@ -40,21 +41,22 @@ struct ReadCase {
 impl Block {
     const BOTH: [Block; 2] = [Block::Ir, Block::Ccd];
 
-    fn length(self) -> usize {
+    pub fn length(self) -> usize {
         match self {
             Block::Ir => IR_LENGTH,
             Block::Ccd => CCD_LENGTH,
         }
     }
 
-    fn readings(self) -> usize {
+    pub fn readings(self) -> usize {
         match self {
             Block::Ir => IR_READINGS,
             Block::Ccd => CCD_READINGS,
         }
     }
 
-    fn meaning(self) -> usize {
+    /// Numbers that reading it gives.
+    pub fn meaning(self) -> usize {
         match self {
             Block::Ir => IR_MEANING_LENGTH,
             Block::Ccd => CCD_MEANING_LENGTH,

@@ -1,139 +1,116 @@
 //! Both blocks, written and read.
 
 use super::Workload;
+use compare::blocks::Block;
 use compare::random::Random;
 use compare::sides::{Paper, Shown, Side};
 use compare::states::{self, Numbers};
-use shabgozim::{CCD_LENGTH, CCD_MEANING_LENGTH, CCD_READINGS};
-use shabgozim::{IR_LENGTH, IR_MEANING_LENGTH, IR_READINGS};
 use std::hint::black_box;
 
 const BLOCKS: usize = 64;
 
+/// Blocks of states in range.
+pub struct WrittenBlocks {
+    block: Block,
+    given: Vec<Given>,
+    buffer: Vec<u16>,
+}
+
+/// Blocks as they are written.
+pub struct ReadBlocks {
+    block: Block,
+    blocks: Vec<Vec<u16>>,
+    meaning: Vec<u16>,
+}
+
 /// What a writer is given.
-struct Given<const READINGS: usize> {
+struct Given {
     state: Numbers,
     shown: Shown,
-    readings: [u16; READINGS],
+    readings: Vec<u16>,
 }
 
-fn given<const READINGS: usize>() -> Vec<Given<READINGS>> {
-    let mut random = Random::new(5);
-    let mut one = || Given {
-        state: states::in_range(&mut random),
-        shown: Shown {
-            flags: random.below(32) as u32,
-            ended: random.below(2) as u32,
-            bits: random.below(2) as u32,
-        },
-        readings: std::array::from_fn(|_| random.number()),
-    };
-    (0..BLOCKS).map(|_| one()).collect()
-}
-
-macro_rules! writing {
-    ($type:ident, $name:literal, $write:ident, $function:literal, $readings:ident, $length:ident) => {
-        pub struct $type(Vec<Given<$readings>>);
-
-        impl $type {
-            fn block<S: Side>(given: &Given<$readings>) -> ([u16; $length], u32) {
-                let mut block = [0; $length];
-                let answer = S::$write(
-                    black_box(&given.state[..]),
-                    given.shown,
-                    black_box(&given.readings[..]),
-                    black_box(&mut block[..]),
-                );
-                (block, answer)
-            }
+impl Given {
+    fn random(random: &mut Random, block: Block) -> Given {
+        Given {
+            state: states::in_range(random),
+            shown: Shown {
+                flags: random.below(32) as u32,
+                ended: random.below(2) as u32,
+                bits: random.below(8) as u32,
+            },
+            readings: (0..block.readings()).map(|_| random.number()).collect(),
         }
+    }
 
-        impl Workload for $type {
-            const NAME: &'static str = $name;
-            const FUNCTIONS: &'static [&'static str] = &[$function];
-
-            fn new() -> $type {
-                $type(given())
-            }
-
-            fn calls(&self) -> usize {
-                BLOCKS
-            }
-
-            fn pass<S: Side>(&mut self) -> u64 {
-                let sum = |(block, answer): ([u16; $length], u32)| {
-                    u64::from(answer) + u64::from(block[$length - 1])
-                };
-                self.0
-                    .iter()
-                    .map(|given| sum($type::block::<S>(given)))
-                    .sum()
-            }
-        }
-    };
+    fn write<S: Side>(&self, block: Block, buffer: &mut [u16]) -> u32 {
+        let write = match block {
+            Block::Ir => S::write_ir,
+            Block::Ccd => S::write_ccd,
+        };
+        let readings = black_box(&self.readings[..]);
+        write(black_box(&self.state[..]), self.shown, readings, buffer)
+    }
 }
 
-macro_rules! reading {
-    ($type:ident, $name:literal, $read:ident, $function:literal, $written:ident, $length:ident, $meaning:ident) => {
-        pub struct $type(Vec<[u16; $length]>);
-
-        impl Workload for $type {
-            const NAME: &'static str = $name;
-            const FUNCTIONS: &'static [&'static str] = &[$function];
-
-            fn new() -> $type {
-                let blocks = given();
-                let blocks = blocks.iter().map(|given| $written::block::<Paper>(given).0);
-                $type(blocks.collect())
-            }
-
-            fn calls(&self) -> usize {
-                BLOCKS
-            }
-
-            fn pass<S: Side>(&mut self) -> u64 {
-                let read = |block: &[u16; $length]| {
-                    let mut meaning = [0; $meaning];
-                    let answer = S::$read(black_box(&block[..]), black_box(&mut meaning[..]));
-                    u64::from(answer) + u64::from(meaning[$meaning - 1])
-                };
-                self.0.iter().map(read).sum()
-            }
+impl WrittenBlocks {
+    pub fn new(block: Block) -> WrittenBlocks {
+        let mut random = Random::new(5);
+        let given = (0..BLOCKS).map(|_| Given::random(&mut random, block));
+        WrittenBlocks {
+            block,
+            given: given.collect(),
+            buffer: vec![0; block.length()],
         }
-    };
+    }
 }
 
-writing!(
-    WriteIr,
-    "write IR block",
-    write_ir,
-    "write_ir",
-    IR_READINGS,
-    IR_LENGTH
-);
-writing!(
-    WriteCcd,
-    "write CCD block",
-    write_ccd,
-    "write_ccd",
-    CCD_READINGS,
-    CCD_LENGTH
-);
-reading!(
-    ReadIr,
-    "read IR block",
-    read_ir,
-    "read_ir",
-    WriteIr,
-    IR_LENGTH,
-    IR_MEANING_LENGTH
-);
-reading!(
-    ReadCcd,
-    "read CCD block",
-    read_ccd,
-    "read_ccd",
-    WriteCcd,
-    CCD_LENGTH,
-    CCD_MEANING_LENGTH
-);
+impl Workload for WrittenBlocks {
+    fn calls(&self) -> usize {
+        self.given.len()
+    }
+
+    fn pass<S: Side>(&mut self) -> u64 {
+        let buffer = &mut self.buffer[..];
+        let write = |given: &Given| {
+            let answer = given.write::<S>(self.block, black_box(&mut *buffer));
+            u64::from(answer) + u64::from(buffer[buffer.len() - 1])
+        };
+        self.given.iter().map(write).sum()
+    }
+}
+
+impl ReadBlocks {
+    pub fn new(block: Block) -> ReadBlocks {
+        let written = WrittenBlocks::new(block);
+        let one = |given: &Given| {
+            let mut buffer = vec![0; block.length()];
+            given.write::<Paper>(block, &mut buffer);
+            buffer
+        };
+        ReadBlocks {
+            block,
+            blocks: written.given.iter().map(one).collect(),
+            meaning: vec![0; block.meaning()],
+        }
+    }
+}
+
+impl Workload for ReadBlocks {
+    fn calls(&self) -> usize {
+        self.blocks.len()
+    }
+
+    fn pass<S: Side>(&mut self) -> u64 {
+        let read = match self.block {
+            Block::Ir => S::read_ir,
+            Block::Ccd => S::read_ccd,
+        };
+        let meaning = &mut self.meaning[..];
+        let one = |block: &Vec<u16>| {
+            let answer = read(black_box(block), black_box(&mut *meaning));
+            u64::from(answer) + u64::from(meaning[meaning.len() - 1])
+        };
+        self.blocks.iter().map(one).sum()
+    }
+}
