@@ -20,4 +20,5 @@ pub mod reduce;
 pub mod sides;
 pub mod states;
 pub mod steps;
+pub mod unpacked;
 pub mod words;

@@ -5,7 +5,7 @@
 
 use compare::random::Random;
 use compare::reduce::{Counted, Failure};
-use compare::{blocks, codec, demand3, plans, steps};
+use compare::{blocks, codec, demand3, plans, steps, unpacked};
 use std::process::ExitCode;
 use std::time::{Instant, SystemTime, UNIX_EPOCH};
 
@@ -29,6 +29,7 @@ const PARTS: &[Part] = &[
     ("blocks written", blocks::written),
     ("blocks read", blocks::read),
     ("block lengths", blocks::lengths),
+    ("unpacked answers", unpacked::answers),
 ];
 
 struct Options {
