@@ -1,7 +1,6 @@
 -- `text::numbers::put_decimal` meets its contract: the digits before the last one are those of a tenth of the number, which is the
 -- measure.
 -- Assumes nothing.
-use mathlib.Core.Path.{_≡_, refl, sym, ap, _∙_}
 use Prim.Native.Nat.{ℕ, _/_, _^_, _≤_, _<_}
 use native.Mathlib.Omega.{arith}
 use borrow.Author.Needs.{needs}
@@ -10,7 +9,7 @@ use borrow.Fn.Kinds.{In}
 use borrow.Fn.PlainCycle.{Measures, is, falls, and}
 use Rattle.text.specs.Numbers.{decimalOf}
 use Rattle.text.proofs.Digits.{decimal-one, decimal-more, longer, decimal-long}
-use Rattle.text.proofs.Laying.{laid-then, laid-long, laid-byte}
+use Rattle.text.proofs.Laying.{laid-then, laid-byte}
 use Rattle.text.proofs.numbers.put_decimal.Reads as put-decimal
 use Rattle.text.proofs.numbers.put_decimal.Kinds as put-decimal-kinds
 use Rattle.text.proofs.numbers.+put_decimal.Lts-put_decimal as put-decimal-lts
