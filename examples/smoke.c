@@ -1,0 +1,164 @@
+/*
+ * Drives the library through its C interface: a few words and ticks by hand,
+ * then document 01's example plan, translated and run tick by tick on the head.
+ *
+ *     rt staticlib interface
+ *     cc -Wall -Wextra -Werror -I include examples/smoke.c \
+ *         target/staticlib/libinterface.a -o target/smoke
+ *     target/smoke | diff examples/smoke.stdout -
+ */
+#include <inttypes.h>
+#include <stdio.h>
+
+#include "shabgozim.h"
+
+static const uint8_t example_plan[] = {0x01, 0x00, 0x0A, 0x05, 0x0C, 0xFF, 0x00,
+                                       0x0F, 0xF8, 0x01, 0x0F, 0x01, 0x10};
+
+static void print_mirror(const uint16_t *state)
+{
+    unsigned sine = state[SHABGOZIM_SINE];
+    printf("mirror %c%u, %u", sine & 0x1000 ? '-' : '+', sine & 0x0FFF,
+           (unsigned)state[SHABGOZIM_COSINE]);
+}
+
+static void print_block(const char *name, const uint16_t *block, size_t length)
+{
+    printf("  %s", name);
+    for (size_t i = 0; i < length; i++) {
+        printf(" %04X", (unsigned)block[i]);
+    }
+    printf("\n");
+}
+
+/* Both blocks of a state, after a tick that says they are due. */
+static void print_blocks(const uint16_t *state, uint32_t due)
+{
+    uint16_t readings[SHABGOZIM_CCD_READINGS] = {0};
+    uint16_t ir[SHABGOZIM_IR_BLOCK];
+    uint16_t ccd[SHABGOZIM_CCD_BLOCK];
+    uint16_t says[SHABGOZIM_IR_SAYS];
+    uint32_t flags = due >> 8;
+    uint32_t ended = due & 0xFF;
+
+    shabgozim_write_ir(state, SHABGOZIM_STATE, flags, ended, 0, readings,
+                       SHABGOZIM_IR_READINGS, ir, SHABGOZIM_IR_BLOCK);
+    shabgozim_write_ccd(state, SHABGOZIM_STATE, flags, ended, 0, readings,
+                        SHABGOZIM_CCD_READINGS, ccd, SHABGOZIM_CCD_BLOCK);
+    print_block("IR", ir, SHABGOZIM_IR_BLOCK);
+    print_block("CCD", ccd, SHABGOZIM_CCD_BLOCK);
+    printf("  read back: %" PRIu32,
+           shabgozim_read_ir(ir, SHABGOZIM_IR_BLOCK, says, SHABGOZIM_IR_SAYS));
+    printf(", after an acquisition: %u\n",
+           (unsigned)says[SHABGOZIM_IR_SAYS_ACQUISITION]);
+}
+
+static void send(uint16_t *state, uint16_t word)
+{
+    uint32_t answer = shabgozim_word(state, SHABGOZIM_STATE, word);
+    printf("word %04X answers %" PRIu32 ", ", (unsigned)word, answer);
+    print_mirror(state);
+    printf("\n");
+}
+
+/* Ticks until blocks are due. */
+static void wait_for_blocks(uint16_t *state)
+{
+    uint32_t due = 0;
+    unsigned ticks = 0;
+    while (due == 0) {
+        due = shabgozim_tick(state, SHABGOZIM_STATE);
+        ticks++;
+    }
+    printf("%u ticks, then %" PRIu32 "\n", ticks, due & 0xFF);
+    print_blocks(state, due);
+}
+
+static void by_hand(void)
+{
+    static const uint16_t words[] = {0x2011, 0xA000, 0x600F, 0xE0F8, 0xC001,
+                                     0x3800, 0x8000, 0x2010};
+    uint16_t state[SHABGOZIM_STATE];
+
+    printf("power-on %" PRIu32 "\n", shabgozim_power_on(state, SHABGOZIM_STATE));
+    for (size_t i = 0; i < sizeof words / sizeof words[0]; i++) {
+        send(state, words[i]);
+    }
+    wait_for_blocks(state);
+    printf("in range %" PRIu32 ", one number short %" PRIu32 "\n",
+           shabgozim_in_range(state, SHABGOZIM_STATE),
+           shabgozim_in_range(state, SHABGOZIM_STATE - 1));
+    printf("decode C001 %08" PRIX32 ", encode COVER 81 %08" PRIX32 "\n",
+           shabgozim_decode(0xC001), shabgozim_encode(27, 81));
+}
+
+/* A word of the run, with what the head makes of it. */
+static void print_act(uint32_t tick, uint16_t word, uint32_t answer,
+                      const uint16_t *state)
+{
+    printf("%" PRIu32 " %04X", tick, (unsigned)word);
+    if (answer == 1) {
+        printf(" exposure under ");
+        print_mirror(state);
+    } else if (answer == 2) {
+        printf(" housekeeping");
+    } else if (answer != 0) {
+        printf(" answers %" PRIu32, answer);
+    }
+    printf("\n");
+}
+
+static void run_plan(void)
+{
+    uint16_t state[SHABGOZIM_STATE];
+    uint16_t words[SHABGOZIM_MOST_WORDS];
+    uint32_t ticks[SHABGOZIM_MOST_WORDS];
+    shabgozim_power_on(state, SHABGOZIM_STATE);
+
+    uint64_t answer = shabgozim_translate(
+        state, SHABGOZIM_STATE, example_plan, sizeof example_plan, words,
+        SHABGOZIM_MOST_WORDS, ticks, SHABGOZIM_MOST_WORDS);
+    size_t count = answer >> 8 & 0xFFFF;
+    uint32_t end = (uint32_t)(answer >> 32);
+    printf("plan %u: %zu words, end %" PRIu32 "\n", (unsigned)(answer & 0xFF),
+           count, end);
+
+    size_t next = 0;
+    for (uint32_t tick = 0; tick < end; tick++) {
+        if (next < count && ticks[next] == tick) {
+            uint16_t word = words[next++];
+            print_act(tick, word,
+                      shabgozim_word(state, SHABGOZIM_STATE, word), state);
+        }
+        uint32_t due = shabgozim_tick(state, SHABGOZIM_STATE);
+        if (due != 0) {
+            printf("blocks due %" PRIu32 "\n", due & 0xFF);
+            print_blocks(state, due);
+        }
+    }
+    printf("end %" PRIu32 ", ", end);
+    print_mirror(state);
+    printf("\n");
+}
+
+/* A plan whose first order has an unknown code. */
+static void refuse_plan(void)
+{
+    static const uint8_t plan[] = {0x01, 0x00, 0x02, 0x01, 0x12};
+    uint16_t state[SHABGOZIM_STATE];
+    uint16_t words[1];
+    uint32_t ticks[1];
+    shabgozim_power_on(state, SHABGOZIM_STATE);
+    uint64_t answer = shabgozim_translate(state, SHABGOZIM_STATE, plan,
+                                          sizeof plan, words, 1, ticks, 1);
+    printf("refused %u at %u\n", (unsigned)(answer & 0xFF),
+           (unsigned)(answer >> 32));
+}
+
+int main(void)
+{
+    by_hand();
+    run_plan();
+    refuse_plan();
+    return 0;
+}

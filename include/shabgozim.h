@@ -1,0 +1,277 @@
+/*
+ * Shabgozim: verified ground software for the VIRTIS-M instrument head.
+ *
+ * Build the archive and link it; nothing else is needed:
+ *
+ *     rt staticlib interface
+ *     cc -I include program.c target/staticlib/libinterface.a
+ *
+ * Conventions
+ *
+ * A buffer is a pointer and the number of its elements. The pointer must be
+ * valid for that many elements and aligned for its type, and the buffers of one
+ * call must not overlap; a buffer of no elements still wants a pointer that is
+ * not null. Nothing else is asked of a caller: lengths and contents may be
+ * anything, and are judged. A refused call writes nothing.
+ *
+ * The library keeps no memory of its own, allocates nothing, never prints and
+ * never ends the program. Calls on different buffers may run at the same time.
+ *
+ * Numbers of refusals are those of document 01: 1-10 for plans, 11-13 for
+ * blocks, 21-25 for the head. 0 is success.
+ *
+ * One tick is 10 ms.
+ */
+#ifndef SHABGOZIM_H
+#define SHABGOZIM_H
+
+#include <stddef.h>
+#include <stdint.h>
+
+#ifdef __cplusplus
+extern "C" {
+#endif
+
+/* ------------------------------------------------------------------------
+ * The state of a head: 35 numbers.
+ *
+ * Lamps, shutter and annealing hold the data of their word: bit 0 is on
+ * (shutter: closed), the bits above are the current or limit. The ranges are
+ * those of a state in range; an array with other numbers is refused with 21.
+ */
+enum {
+    SHABGOZIM_DETECTOR = 0,       /* 0 or 1 */
+    SHABGOZIM_WINDOW_MODE = 1,    /* 0 full, 1 reduced */
+    SHABGOZIM_VDETCOM = 2,        /* 0-4095 */
+    SHABGOZIM_VDETADJ = 3,        /* 0-4095 */
+    SHABGOZIM_IR_DELAY = 4,       /* 0-1023 */
+    SHABGOZIM_IR_EXPO = 5,        /* 0-1023 */
+    SHABGOZIM_CCD_DELAY = 6,      /* 5-1023 */
+    SHABGOZIM_CCD_EXPO = 7,       /* 0-1023 */
+    SHABGOZIM_X1 = 8,             /* 0-1023 */
+    SHABGOZIM_Y1 = 9,             /* 0-511 */
+    SHABGOZIM_X2 = 10,            /* 0-1023 */
+    SHABGOZIM_Y2 = 11,            /* 0-511 */
+    SHABGOZIM_CCD_LAMP = 12,      /* 0-7 */
+    SHABGOZIM_IR_LAMP = 13,       /* 0-31 */
+    SHABGOZIM_SHUTTER = 14,       /* 0-31 */
+    SHABGOZIM_ANNEALING = 15,     /* 0-127 */
+    SHABGOZIM_SINE = 16,          /* bits 0-11 magnitude, bit 12 sign (1: minus) */
+    SHABGOZIM_COSINE = 17,        /* 0-4095 */
+    SHABGOZIM_SWITCH = 18,        /* 0 motor on, 1 off */
+    SHABGOZIM_COVER_DIRECTION = 19, /* 1 opens */
+    SHABGOZIM_VDETCOM_LATCH = 20, /* 0-15 */
+    SHABGOZIM_VDETADJ_LATCH = 21, /* 0-15 */
+    SHABGOZIM_IR_TIME = 22,       /* error flags: 0 or 1 each */
+    SHABGOZIM_IR_WORD = 23,
+    SHABGOZIM_SCAN = 24,
+    SHABGOZIM_VIS_TIME = 25,
+    SHABGOZIM_VIS_WORD = 26,
+    SHABGOZIM_TASK = 27,          /* 0 none, 1 acquisition, 2 housekeeping */
+    SHABGOZIM_BUSY = 28,          /* ticks left: 0 with no task, 1-4238, 1-3 */
+    SHABGOZIM_MIRROR_MOTION = 29, /* ticks left: 0-30 */
+    SHABGOZIM_COVER_MOTION = 30,  /* ticks left: 0-2025 */
+    SHABGOZIM_SET_WORDS = 31,     /* words of the begun mirror set: 0-3 */
+    SHABGOZIM_SET_SIN_M = 32,     /* data of its words; 0 where not received */
+    SHABGOZIM_SET_SIN_L = 33,
+    SHABGOZIM_SET_COS_M = 34,
+    SHABGOZIM_STATE = 35          /* how many numbers there are */
+};
+
+/* Writes the power-on state. Answers 0, or 21 where `length` is not 35. */
+uint32_t shabgozim_power_on(uint16_t *state, size_t length);
+
+/* Answers 0 for a state in range, 21 for any other array. */
+uint32_t shabgozim_in_range(const uint16_t *state, size_t length);
+
+/*
+ * Gives the head a word, and advances the state. No tick passes.
+ *
+ *     0        taken
+ *     1        taken: START, an exposure begins
+ *     2        taken: HK, a housekeeping request begins
+ *     0x1000-  taken: COVER, a cover move; the answer is the word itself
+ *     21       refused: the state is out of range; it is left as it was
+ *     22       ignored: busy, or COVER while the cover moves
+ *     23       ignored: unknown identifier
+ *     24       ignored: data out of range
+ *     25       ignored: mirror word out of turn
+ *
+ * An ignored word (22-25) sets error flags and may drop a begun mirror set.
+ */
+uint32_t shabgozim_word(uint16_t *state, size_t length, uint16_t word);
+
+/*
+ * Lets a tick pass, and advances the state.
+ *
+ * Bits 0-7 of the answer:
+ *     0   nothing is due
+ *     1   both blocks are due after an acquisition
+ *     2   both blocks are due after housekeeping
+ *     21  refused: the state is out of range; it is left as it was
+ * Bits 8-12, where blocks are due: the flags that they show (below). The
+ * state's own flags are then cleared.
+ */
+uint32_t shabgozim_tick(uint16_t *state, size_t length);
+
+/* The flags in a tick's answer, as bits of `answer >> 8`. */
+enum {
+    SHABGOZIM_SHOWS_IR_TIME = 1,
+    SHABGOZIM_SHOWS_IR_WORD = 2,
+    SHABGOZIM_SHOWS_SCAN = 4,
+    SHABGOZIM_SHOWS_VIS_TIME = 8,
+    SHABGOZIM_SHOWS_VIS_WORD = 16
+};
+
+/* ------------------------------------------------------------------------
+ * Words. Their 28 kinds, in the order of document 01's table read row by row:
+ *
+ *      0 NOP          1 START        2 HK           3 STOP
+ *      4 IR DETECTOR  5 IR WIN MODE  6 VDETCOM M    7 VDETCOM L
+ *      8 VDETADJ M    9 VDETADJ L   10 IR DELAY    11 IR EXPO
+ *     12 WIN X1      13 WIN Y1      14 WIN X2      15 WIN Y2
+ *     16 CCD DELAY   17 CCD EXPO    18 CCD LAMP    19 IR LAMP
+ *     20 SHUTTER     21 ANNEALING   22 SIN M       23 SIN L
+ *     24 COS M       25 COS L       26 SWITCH      27 COVER
+ */
+
+/*
+ * What a word means. Bits 24-31: 0, 23 (unknown identifier) or 24 (data out of
+ * range). Bits 16-23: the kind, 0 for 23. Bits 0-15: the data, 0 for 23 and 24.
+ */
+uint32_t shabgozim_decode(uint16_t word);
+
+/*
+ * The word of a kind and its data. Bits 24-31: 0, or 24 where there is no such
+ * word. Bits 0-15: the word, 0 for 24.
+ */
+uint32_t shabgozim_encode(uint8_t kind, uint16_t data);
+
+/* ------------------------------------------------------------------------
+ * Plans.
+ */
+
+/* No plan has more words than this. */
+enum { SHABGOZIM_MOST_WORDS = 256 };
+
+/*
+ * Translates a stored plan into timed words, for a head in this state: word i
+ * is to be sent at tick i of `ticks`, and then that tick is to pass. Ticks rise.
+ *
+ * Bits 0-7 of the answer: 0, or why the plan is refused:
+ *     1   the state is out of range, busy, or something moves
+ *     2   fewer than 3 bytes
+ *     3   version not 1
+ *     4   bytes after the third are not as many as the length says
+ *     5   order length 0 or past the end
+ *     6   code not 1-17
+ *     7   order length not that of its code
+ *     8   a field out of range
+ *     9   a 65th order begins
+ *     10  `words` or `ticks` is shorter than the count
+ * Bits 8-23: the count of words, for 0 and 10; else 0.
+ * Bits 32-63: for 0 the end, the tick at which the head is free again (at most
+ * 4,194,240); for 5-9 the place of the faulty order's length byte in the plan;
+ * else 0.
+ *
+ * Success fills the first count places of both buffers, and writes no other.
+ */
+uint64_t shabgozim_translate(const uint16_t *state, size_t state_length,
+                             const uint8_t *plan, size_t plan_length,
+                             uint16_t *words, size_t words_length,
+                             uint32_t *ticks, size_t ticks_length);
+
+/* ------------------------------------------------------------------------
+ * Housekeeping blocks. They are due when a tick says so, and show the state
+ * after that tick.
+ */
+enum {
+    SHABGOZIM_IR_BLOCK = 20,     /* words of the IR block */
+    SHABGOZIM_IR_READINGS = 14,  /* the first words: the caller's readings */
+    SHABGOZIM_CCD_BLOCK = 25,    /* words of the CCD block */
+    SHABGOZIM_CCD_READINGS = 16
+};
+
+/*
+ * Write the IR or the CCD block of a state.
+ *
+ * `flags`: the flags to show, as bits 8-12 of the tick's answer shifted down.
+ * `ended`: 1 after an acquisition, any other number else; the low eight bits
+ * of the tick's answer do.
+ * `bits`: bit 0 latch-up; for the IR block also bit 1 not closed, bit 2 not
+ * open. Other bits of `flags` and `bits` say nothing.
+ *
+ * Answers 0; 11 where `readings` or `block` has not its length; 21 where the
+ * state is out of range.
+ */
+uint32_t shabgozim_write_ir(const uint16_t *state, size_t state_length,
+                            uint32_t flags, uint32_t ended, uint32_t bits,
+                            const uint16_t *readings, size_t readings_length,
+                            uint16_t *block, size_t block_length);
+
+uint32_t shabgozim_write_ccd(const uint16_t *state, size_t state_length,
+                             uint32_t flags, uint32_t ended, uint32_t bits,
+                             const uint16_t *readings, size_t readings_length,
+                             uint16_t *block, size_t block_length);
+
+/* What an IR block says: 31 numbers, flags and switches as 0 or 1. */
+enum {
+    SHABGOZIM_IR_SAYS_READINGS = 0, /* to 13 */
+    SHABGOZIM_IR_SAYS_WINDOW_MODE = 14,
+    SHABGOZIM_IR_SAYS_DELAY = 15,
+    SHABGOZIM_IR_SAYS_EXPO = 16,
+    SHABGOZIM_IR_SAYS_LAMP_CURRENT = 17,
+    SHABGOZIM_IR_SAYS_LAMP_ON = 18,
+    SHABGOZIM_IR_SAYS_SHUTTER_CURRENT = 19,
+    SHABGOZIM_IR_SAYS_CLOSED = 20,
+    SHABGOZIM_IR_SAYS_ACQUISITION = 21, /* the block follows an acquisition */
+    SHABGOZIM_IR_SAYS_TIME = 22,
+    SHABGOZIM_IR_SAYS_WORD = 23,
+    SHABGOZIM_IR_SAYS_SCAN = 24,
+    SHABGOZIM_IR_SAYS_DETECTOR = 25,
+    SHABGOZIM_IR_SAYS_LATCH_UP = 26,
+    SHABGOZIM_IR_SAYS_ANNEALING = 27,
+    SHABGOZIM_IR_SAYS_COVER_OPENS = 28, /* the last cover move's direction */
+    SHABGOZIM_IR_SAYS_NOT_CLOSED = 29,
+    SHABGOZIM_IR_SAYS_NOT_OPEN = 30,
+    SHABGOZIM_IR_SAYS = 31              /* how many numbers there are */
+};
+
+/* What a CCD block says: 30 numbers. */
+enum {
+    SHABGOZIM_CCD_SAYS_READINGS = 0, /* to 15 */
+    SHABGOZIM_CCD_SAYS_X1 = 16,
+    SHABGOZIM_CCD_SAYS_Y1 = 17,
+    SHABGOZIM_CCD_SAYS_X2 = 18,
+    SHABGOZIM_CCD_SAYS_Y2 = 19,
+    SHABGOZIM_CCD_SAYS_DELAY = 20,
+    SHABGOZIM_CCD_SAYS_EXPO = 21,
+    SHABGOZIM_CCD_SAYS_SINE = 22, /* magnitude */
+    SHABGOZIM_CCD_SAYS_MINUS = 23,
+    SHABGOZIM_CCD_SAYS_COSINE = 24,
+    SHABGOZIM_CCD_SAYS_ACQUISITION = 25,
+    SHABGOZIM_CCD_SAYS_TIME = 26,
+    SHABGOZIM_CCD_SAYS_WORD = 27,
+    SHABGOZIM_CCD_SAYS_LATCH_UP = 28,
+    SHABGOZIM_CCD_SAYS_LAMP_ON = 29,
+    SHABGOZIM_CCD_SAYS = 30
+};
+
+/*
+ * Read an IR or a CCD block into what it says.
+ *
+ * Bits 0-7 of the answer: 0; 11 where `block` or `numbers` has not its length;
+ * 12 a fixed bit is wrong; 13 a value is out of range. Bits 8-31: the index in
+ * the block of the word that 12 or 13 is about; else 0.
+ */
+uint32_t shabgozim_read_ir(const uint16_t *block, size_t block_length,
+                           uint16_t *numbers, size_t numbers_length);
+
+uint32_t shabgozim_read_ccd(const uint16_t *block, size_t block_length,
+                            uint16_t *numbers, size_t numbers_length);
+
+#ifdef __cplusplus
+}
+#endif
+
+#endif
