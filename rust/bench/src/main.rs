@@ -1,5 +1,5 @@
 //! Measures the library against the implementation written from document 01,
-//! both behind the same interface, and prints a Markdown table.
+//! both behind the same interface, and prints docs/PERFORMANCE.md.
 
 mod counting;
 mod measured;
@@ -34,9 +34,22 @@ fn one_pass(name: &str, which: &str) -> ExitCode {
     ExitCode::SUCCESS
 }
 
+const HEADING: &str = "\
+# Performance
+
+Printed whole by `cargo run --release -p bench` in `rust/`, which builds both sides for release and measures them in one run on one machine.
+
+`paper` is document 01 written out in Rust without proofs (`rust/paper`). Both sides stand behind the same interface: the state is an array of
+35 numbers, read and stored by every call, and no call is inlined. A ratio above 1 means that the library takes more than `paper`.
+
+Instructions per call are counted inside the measured functions by callgrind and are the same in every run. The time ratio is the median, with
+quartiles, over repeats in which the two sides take turns. Nanoseconds are for scale only.
+
+| call | instructions: library | paper | ratio | time ratio (quartiles) | ns: library | paper |
+|---|---:|---:|---:|---:|---:|---:|";
+
 fn report() -> ExitCode {
-    println!("| call | instructions: library | paper | ratio | time ratio (quartiles) | ns: library | paper |");
-    println!("|---|---:|---:|---:|---:|---:|---:|");
+    println!("{HEADING}");
     for row in ROWS {
         match line(row) {
             Ok(line) => println!("{line}"),
