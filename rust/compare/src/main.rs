@@ -1,7 +1,7 @@
 //! Compares the library with the implementation written from document 01.
 //!
-//! `compare [--seed N] [--long]`: a run of some ten million comparisons, or
-//! a much longer one. It stops at the first difference and prints it.
+//! `compare [--seed N] [--long]`: some hundred million comparisons, or many
+//! more. It stops at the first difference and prints its shortest case.
 
 use compare::random::Random;
 use compare::reduce::{Counted, Failure};
