@@ -14,6 +14,7 @@ pub mod buffer;
 pub mod codec;
 pub mod demand3;
 pub mod orders;
+mod plan_case;
 pub mod plans;
 pub mod random;
 pub mod reduce;

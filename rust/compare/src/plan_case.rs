@@ -1,0 +1,160 @@
+//! One translation on both sides, compared and made shorter.
+
+use crate::buffer::{difference, Buffer};
+use crate::orders;
+use crate::reduce::{failure, Case, Counted};
+use crate::sides::{Library, Paper, Side};
+use crate::states;
+use std::fmt;
+
+/// Longer than any list can be.
+pub const ROOM: usize = 300;
+/// Fills that are no word and no tick.
+const NO_WORD: u16 = 0xAAAA;
+const NO_TICK: u32 = 0xBBBB_BBBB;
+
+/// One translation: state, plan and the lengths of both buffers.
+#[derive(Clone)]
+pub struct PlanCase {
+    pub state: Vec<u16>,
+    pub plan: Vec<u8>,
+    pub words: usize,
+    pub ticks: usize,
+}
+
+/// The buffers of one side.
+struct Lists {
+    words: Buffer<u16>,
+    ticks: Buffer<u32>,
+}
+
+/// Translates on both sides, into buffers that are used again.
+pub struct Translator {
+    library: Lists,
+    paper: Lists,
+}
+
+impl Lists {
+    fn new() -> Lists {
+        Lists {
+            words: Buffer::filled(ROOM, NO_WORD),
+            ticks: Buffer::filled(ROOM, NO_TICK),
+        }
+    }
+
+    fn translate<S: Side>(&mut self, case: &PlanCase) -> u64 {
+        self.words.refill(NO_WORD, case.words);
+        self.ticks.refill(NO_TICK, case.ticks);
+        S::translate(
+            &case.state,
+            &case.plan,
+            self.words.lent(),
+            self.ticks.lent(),
+        )
+    }
+}
+
+impl Translator {
+    pub fn new() -> Translator {
+        Translator {
+            library: Lists::new(),
+            paper: Lists::new(),
+        }
+    }
+
+    pub fn answers(&mut self, case: &PlanCase) -> (u64, u64) {
+        let answer = self.library.translate::<Library>(case);
+        (answer, self.paper.translate::<Paper>(case))
+    }
+
+    /// Compares the answers and every place of both buffers.
+    pub fn compare(&mut self, case: &PlanCase) -> Counted {
+        let (answer, expected) = self.answers(case);
+        let alike = answer == expected
+            && self.library.words == self.paper.words
+            && self.library.ticks == self.paper.ticks;
+        match alike {
+            true => Ok(1),
+            false => Err(failure(case.clone())),
+        }
+    }
+}
+
+impl PlanCase {
+    /// With room for every word.
+    pub fn new(state: &[u16], plan: Vec<u8>) -> PlanCase {
+        PlanCase {
+            state: state.to_vec(),
+            plan,
+            words: ROOM,
+            ticks: ROOM,
+        }
+    }
+
+    pub fn from_power_on(plan: Vec<u8>) -> PlanCase {
+        PlanCase::new(&states::power_on(), plan)
+    }
+
+    pub fn with_plan(&self, plan: Vec<u8>) -> PlanCase {
+        PlanCase {
+            plan,
+            ..self.clone()
+        }
+    }
+
+    pub fn with_state(&self, state: Vec<u16>) -> PlanCase {
+        PlanCase {
+            state,
+            ..self.clone()
+        }
+    }
+}
+
+impl Case for PlanCase {
+    fn difference(&self) -> Option<String> {
+        let mut translator = Translator::new();
+        let (answer, expected) = translator.answers(self);
+        if answer != expected {
+            return Some(format!(
+                "answer: library {}, paper {}",
+                unpacked(answer),
+                unpacked(expected)
+            ));
+        }
+        let Translator { library, paper } = translator;
+        difference("words", &library.words, &paper.words).or(difference(
+            "ticks",
+            &library.ticks,
+            &paper.ticks,
+        ))
+    }
+
+    fn shorter(&self) -> Vec<PlanCase> {
+        let mut cases = Vec::new();
+        if self.words != ROOM || self.ticks != ROOM {
+            cases.push(PlanCase::new(&self.state, self.plan.clone()));
+        }
+        let states = states::shorter(&self.state).into_iter();
+        cases.extend(states.map(|state| self.with_state(state)));
+        let plans = orders::shorter(&self.plan).into_iter();
+        cases.extend(plans.map(|plan| self.with_plan(plan)));
+        cases
+    }
+}
+
+impl fmt::Display for PlanCase {
+    fn fmt(&self, out: &mut fmt::Formatter) -> fmt::Result {
+        write!(out, "plan")?;
+        self.plan
+            .iter()
+            .try_for_each(|byte| write!(out, " {byte:02X}"))?;
+        writeln!(out, "\nfrom {}", states::describe(&self.state))?;
+        let (words, ticks) = (self.words, self.ticks);
+        write!(out, "with room for {words} words and {ticks} ticks")
+    }
+}
+
+fn unpacked(answer: u64) -> String {
+    let (number, count, last) = (answer as u8, (answer >> 8) as u32 & 0xFF_FFFF, answer >> 32);
+    format!("number {number}, count {count}, end or place {last}")
+}
