@@ -1,7 +1,8 @@
 //! Compares the library with the implementation written from document 01.
 //!
-//! `compare [--seed N] [--long]`: some hundred million comparisons, or many
-//! more. It stops at the first difference and prints its shortest case.
+//! `compare [--seed N] [--long] [--only PART]`: some hundred million
+//! comparisons, or many more. It stops at the first difference and prints its
+//! shortest case.
 
 use compare::random::Random;
 use compare::reduce::{Counted, Failure};
@@ -35,11 +36,12 @@ const PARTS: &[Part] = &[
 struct Options {
     seed: u64,
     times: u32,
+    only: Option<String>,
 }
 
 fn main() -> ExitCode {
     let Some(options) = options() else {
-        eprintln!("usage: compare [--seed N] [--long]");
+        eprintln!("usage: compare [--seed N] [--long] [--only PART]");
         return ExitCode::from(2);
     };
     println!("seed {}", options.seed);
@@ -56,12 +58,14 @@ fn options() -> Option<Options> {
     let mut options = Options {
         seed: seed_from_clock(),
         times: 1,
+        only: None,
     };
     let mut words = std::env::args().skip(1);
     while let Some(word) = words.next() {
         match word.as_str() {
             "--long" => options.times = LONG,
             "--seed" => options.seed = words.next()?.parse().ok()?,
+            "--only" => options.only = Some(words.next()?),
             _ => return None,
         }
     }
@@ -77,6 +81,9 @@ fn all_parts(options: &Options) -> Result<(), Failure> {
     let start = Instant::now();
     let mut total = 0;
     for (index, (name, part)) in PARTS.iter().enumerate() {
+        if options.only.as_deref().is_some_and(|only| only != *name) {
+            continue;
+        }
         let started = Instant::now();
         let mut random = Random::new(options.seed.wrapping_add((index as u64) << 48));
         let count = part(&mut random, options.times)?;
