@@ -1,6 +1,8 @@
 pub mod Storing
 pub mod Groups
 pub mod RoundTrip
+pub mod InPlace
+pub mod Stepped
 pub mod Numbers
 pub mod Ways
 pub mod Translation

@@ -1,31 +1,21 @@
 -- The ways through the exported functions over a state: l is the array as it was given, r what is answered, after the array that is left.
 -- Assumes nothing.
-use mathlib.Core.Path.{_≡_, refl, sym, _∙_, ap}
-use mathlib.Core.Bool.{Bool, true, false, cond, not, _&&_}
-use mathlib.Core.List.{List, [], _∷_}
-use Prim.Native.Nat.{ℕ, _+_, _-_, _*_}
+use mathlib.Core.Path.{_≡_, refl, sym, _∙_}
+use mathlib.Core.Bool.{Bool, true, false, not}
+use mathlib.Core.List.{List}
+use Prim.Native.Nat.{ℕ}
 use borrow.Author.Tests.{eq-eqb, ne-eqb, not-true, not-false}
-use lib.Dec.{eqb}
 use lib.ListN.{length}
-use lib.Seq.{sets}
 use Rattle.head.specs.State.{powerOn}
 use Rattle.head.specs.Range.{inRange}
 use Rattle.head.specs.Word.{answerOf}
-use Rattle.head.specs.State.{noFlags}
-use Rattle.head.specs.Tick.{tickOf, passed, moved}
-use Rattle.head.specs.declared.state.Task.the-variants.{Idle}
-use native.Mathlib.Omega.{arith}
-use Rattle.head.specs.Numbers.{outcomeNumber}
+use Rattle.head.specs.Tick.{tickOf, passed}
+use Rattle.head.specs.Numbers.{causeNumber, outcomeNumber}
 use Rattle.head.specs.declared.state.Head.{Head}
-use Rattle.head.specs.declared.state.Flags.{Flags}
-use Rattle.head.specs.declared.state.Task.{Task}
-use Rattle.head.specs.declared.word.Answered.{Answered}
-use Rattle.head.specs.declared.tick.Due.{Due}
-use Rattle.head.specs.declared.tick.Due.the-variants.{Nothing, Blocks, Refused}
-use Rattle.head.specs.declared.tick.Ticked.{Ticked}
-use Rattle.interface.specs.State.{places, taskNumber, activityNumbers, numbersOf, stateOf, wellFormed}
-use Rattle.interface.specs.Stepping.{powerOnAnswer, powerOnState, rangeAnswer, wordAnswer, wordState, flagBits, dueAnswer, tickAnswer, tickState}
+use Rattle.interface.specs.State.{places, numbersOf, stateOf, wellFormed, valid}
+use Rattle.interface.specs.Stepping.{powerOnAnswer, powerOnState, rangeAnswer, wordAnswer, wordState, dueAnswer, tickAnswer, tickState}
 use Rattle.interface.proofs.RoundTrip.{well-formed-length, numbers-state}
+use Rattle.interface.proofs.InPlace.{valid-formed, valid-long, valid-ranged}
 
 module _ (l : List ℕ) where
   module _ (short : length l ≡ places → ⊥) where
@@ -46,120 +36,85 @@ module _ (l : List ℕ) where
     unfolding powerOnState
     power-on-state after h on e = rw (eq-eqb (length l) places long, ← on) e
 
--- the last tick of a task, and any other
-abbrev ended : Head → Ticked
-ended s = record { head = moved s noFlags (record { task = Idle; busy = 0 }); due = Blocks (s .work .task) (s .flags) }
+-- where the state must be loaded: b is what `well_formed` answered
+pub long : (l : List ℕ) (b : Bool) → b ≡ wellFormed l → not b ≡ false → length l ≡ places
+long l b is good = well-formed-length l (sym is ∙ not-false b good)
 
-abbrev going : Head → Ticked
-going s = record { head = moved s (s .flags) (record { task = s .work .task; busy = s .work .busy - 1 }); due = Nothing }
+-- v is what `in_range` answered
+module _ (l : List ℕ) (v : Bool) (is : v ≡ valid l) where
+  pub range-yes : v ≡ true → 0 ≡ rangeAnswer l
+  unfolding rangeAnswer
+  range-yes e = rw (← is, e)
 
--- a tick changes flags, work and motion alone; while nothing is due, only ticks that are left; and nothing where it is refused
-module _ (s : Head) where
-  differ : {A : Type 0} → _≡_ {A = ℕ} 0 1 → A
-  differ z = absurd (omega arith)
+  pub range-no : v ≡ false → 21 ≡ rangeAnswer l
+  unfolding rangeAnswer
+  range-no e = rw (← is, e)
 
-  by-tick : (P : Ticked → Type 0) → P (record { head = s; due = Refused }) → P (ended s) → P (going s) → P (tickOf s)
-  unfolding tickOf passed
-  by-tick P refused end go = pick (inRange s) refl (eqb (s .work .busy) 1) refl
-    where
-      pick : (x : Bool) → inRange s ≡ x → (y : Bool) → eqb (s .work .busy) 1 ≡ y → P (tickOf s)
-      pick false p y q = rw p refused
-      pick true p true q = rw (p, q) end
-      pick true p false q = rw (p, q) go
+  module _ (good : not v ≡ false) where
+    pub held : valid l ≡ true
+    held = sym is ∙ not-false v good
 
-  tick-parts : let t = tickOf s .head in sets (numbersOf s) 22 (activityNumbers (t .flags) (t .work) (t .motion)) ≡ numbersOf t
-  unfolding numbersOf
-  tick-parts =
-      by-tick (λ (t : Ticked). sets (numbersOf s) 22 (activityNumbers (t .head .flags) (t .head .work) (t .head .motion)) ≡ numbersOf (t .head)) refl refl refl
+    pub held-long : length l ≡ places
+    held-long = valid-long l held
 
-  tick-ticks : let t = tickOf s .head in tickOf s .due ≡ Nothing → sets (numbersOf s) 28 (t .work .busy ∷ t .motion .mirror ∷ t .motion .cover ∷ []) ≡ numbersOf t
-  unfolding numbersOf
-  tick-ticks =
-      by-tick (λ (t : Ticked). t .due ≡ Nothing → sets (numbersOf s) 28 (t .head .work .busy ∷ t .head .motion .mirror ∷ t .head .motion .cover ∷ []) ≡ numbersOf (t .head))
-      (λ e. refl) (λ e. differ (cc)) (λ e. refl)
-
-  tick-refused : tickOf s .due ≡ Refused → tickOf s .head ≡ s
-  tick-refused = by-tick (λ (t : Ticked). t .due ≡ Refused → t .head ≡ s) (λ e. refl) (λ e. differ (cc)) (λ e. differ (cc))
-
--- b is what `well_formed` answered
-module _ (l : List ℕ) (b : Bool) (is : b ≡ wellFormed l) where
-  module _ (bad : not b ≡ true) where
-    ill : wellFormed l ≡ false
-    ill = sym is ∙ not-true b bad
-
-    pub range-ill : 21 ≡ rangeAnswer l
-    unfolding rangeAnswer
-    range-ill = rw ill
-
-    pub word-ill : (w : ℕ) → 21 ≡ wordAnswer l w
-    unfolding wordAnswer
-    word-ill w = rw ill
-
-    pub word-ill-left : (w : ℕ) → l ≡ wordState l w
-    unfolding wordState
-    word-ill-left w = rw ill
-
-    pub tick-ill : 21 ≡ tickAnswer l
-    unfolding tickAnswer
-    tick-ill = rw ill
-
-    pub tick-ill-left : l ≡ tickState l
-    unfolding tickState
-    tick-ill-left = rw ill
-
-  module _ (good : not b ≡ false) where
     well : wellFormed l ≡ true
-    well = sym is ∙ not-false b good
+    well = valid-formed l held
 
-    pub long : length l ≡ places
-    long = well-formed-length l well
+    module _ (w : ℕ) where
+      pub word-answer : (r : ℕ) → r ≡ outcomeNumber (answerOf (stateOf l) w .outcome) → r ≡ wordAnswer l w
+      unfolding wordAnswer
+      word-answer r e = rw well e
 
-    module _ (h : Head) (loaded : h ≡ stateOf l) where
-      own : numbersOf h ≡ l
-      own = rw loaded (numbers-state l well)
+      pub word-state : (after : List ℕ) → after ≡ numbersOf (answerOf (stateOf l) w .head) → after ≡ wordState l w
+      unfolding wordState
+      word-state after e = rw well e
 
-      module _ (i : Bool) (judged : i ≡ inRange h) where
-        pub range-yes : i ≡ true → 0 ≡ rangeAnswer l
-        unfolding rangeAnswer
-        range-yes e = rw (well, ← loaded, ← judged, e)
+    pub tick-answer : (r : ℕ) → r ≡ dueAnswer (passed (stateOf l) .due) → r ≡ tickAnswer l
+    unfolding tickAnswer tickOf
+    tick-answer r e = rw (well, valid-ranged l held) e
 
-        pub range-no : i ≡ false → 21 ≡ rangeAnswer l
-        unfolding rangeAnswer
-        range-no e = rw (well, ← loaded, ← judged, e)
+    pub tick-state : (after : List ℕ) → after ≡ numbersOf (passed (stateOf l) .head) → after ≡ tickState l
+    unfolding tickState tickOf
+    tick-state after e = rw (well, valid-ranged l held) e
 
-      module _ (w : ℕ) (a : Answered) (answered : a ≡ answerOf h w) where
-        pub word-answer : (r : ℕ) → r ≡ outcomeNumber (a .outcome) → r ≡ wordAnswer l w
-        unfolding wordAnswer
-        word-answer r e = rw (well, ← loaded, ← answered) e
+  -- refused: the array is not well formed, or its state is out of range
+  module _ (bad : not v ≡ true) where
+    not-held : valid l ≡ false
+    not-held = sym is ∙ not-true v bad
 
-        pub word-state : (after : List ℕ) → after ≡ numbersOf (a .head) → after ≡ wordState l w
-        unfolding wordState
-        word-state after e = rw (well, ← loaded, ← answered) e
+    out : wellFormed l ≡ true → inRange (stateOf l) ≡ false
+    unfolding valid
+    out p = rw p at not-held
 
-      module _ (t : Ticked) (ticked : t ≡ tickOf h) where
-        module _ (quiet : t .due ≡ Nothing) where
-          pub tick-none : 0 ≡ tickAnswer l
-          unfolding tickAnswer dueAnswer
-          tick-none = rw (well, ← loaded, ← ticked, quiet)
+    module _ (w : ℕ) where
+      pub word-refused : 21 ≡ wordAnswer l w
+      unfolding wordAnswer answerOf outcomeNumber causeNumber
+      word-refused = go (wellFormed l) refl
+        where
+          go : (f : Bool) → wellFormed l ≡ f → 21 ≡ wordAnswer l w
+          go false p = rw p
+          go true p = rw (p, out p)
 
-          pub tick-none-state : (after : List ℕ) → after ≡ sets l 28 (t .head .work .busy ∷ t .head .motion .mirror ∷ t .head .motion .cover ∷ []) → after ≡ tickState l
-          unfolding tickState
-          tick-none-state after e = rw (well, ← loaded, ← ticked) (e ∙ rw (own, ← ticked) at (tick-ticks h (rw ticked at quiet)))
+      pub word-left : l ≡ wordState l w
+      unfolding wordState answerOf
+      word-left = go (wellFormed l) refl
+        where
+          go : (f : Bool) → wellFormed l ≡ f → l ≡ wordState l w
+          go false p = rw p
+          go true p = rw (p, out p) (sym (numbers-state l p))
 
-        module _ (task : Task) (shown : Flags) (due : t .due ≡ Blocks task shown) where
-          pub tick-blocks : (r : ℕ) → r ≡ taskNumber task + 256 * flagBits shown → r ≡ tickAnswer l
-          unfolding tickAnswer dueAnswer
-          tick-blocks r e = rw (well, ← loaded, ← ticked, due) e
+    pub tick-refused : 21 ≡ tickAnswer l
+    unfolding tickAnswer tickOf dueAnswer
+    tick-refused = go (wellFormed l) refl
+      where
+        go : (f : Bool) → wellFormed l ≡ f → 21 ≡ tickAnswer l
+        go false p = rw p
+        go true p = rw (p, out p)
 
-          pub tick-blocks-state : (after : List ℕ) → after ≡ sets l 22 (activityNumbers (t .head .flags) (t .head .work) (t .head .motion)) → after ≡ tickState l
-          unfolding tickState
-          tick-blocks-state after e = rw (well, ← loaded, ← ticked) (e ∙ rw (own, ← ticked) at (tick-parts h))
-
-        module _ (refused : t .due ≡ Refused) where
-          pub tick-out : 21 ≡ tickAnswer l
-          unfolding tickAnswer dueAnswer
-          tick-out = rw (well, ← loaded, ← ticked, refused)
-
-          pub tick-out-left : l ≡ tickState l
-          unfolding tickState
-          tick-out-left = rw (well, ← loaded, tick-refused h (rw ticked at refused), own)
+    pub tick-left : l ≡ tickState l
+    unfolding tickState tickOf
+    tick-left = go (wellFormed l) refl
+      where
+        go : (f : Bool) → wellFormed l ≡ f → l ≡ tickState l
+        go false p = rw p
+        go true p = rw (p, out p) (sym (numbers-state l p))

@@ -19,7 +19,7 @@ use Rattle.blocks.specs.declared.written.Written.{Written}
 use Rattle.blocks.specs.declared.written.Written.the-variants.{Done, Refused}
 use Rattle.blocks.specs.declared.ir.IrBits.{IrBits}
 use Rattle.blocks.specs.declared.ccd.CcdBits.{CcdBits}
-use Rattle.interface.specs.State.{stateOf, wellFormed}
+use Rattle.interface.specs.State.{stateOf, wellFormed, valid}
 use Rattle.interface.specs.Blocks.{flagsIn, irBitsIn, ccdBitsIn, blockWritten, irBlockFor, ccdBlockFor}
 
 module _ (n count : ℕ) (l readings old : List ℕ) where
@@ -56,7 +56,7 @@ module _ (n count : ℕ) (l readings old : List ℕ) where
     module _ (b : Bool) (is : b ≡ wellFormed l) where
       module _ (long : length old ≡ n) (bad : not b ≡ true) where
         ill : here ≡ Refused State
-        unfolding blockWritten writtenIf
+        unfolding blockWritten writtenIf valid
         ill = rw (eq-eqb (length readings) count enough, eq-eqb (length old) n long, sym is ∙ not-true b bad)
 
         pub ill-number : 21 ≡ writtenNumber here
@@ -69,8 +69,8 @@ module _ (n count : ℕ) (l readings old : List ℕ) where
 
       module _ (good : not b ≡ false) (h : Head) (loaded : h ≡ stateOf l) (w : Written) (answered : w ≡ writtenOf n h old) where
         pub same-written : w ≡ here
-        unfolding blockWritten writtenOf
-        same-written = answered ∙ rw (eq-eqb (length readings) count enough, sym is ∙ not-false b good, loaded)
+        unfolding blockWritten writtenOf valid
+        same-written = answered ∙ rw (loaded, eq-eqb (length readings) count enough, sym is ∙ not-false b good)
 
         pub written-answer : (r : ℕ) → r ≡ writtenNumber w → r ≡ writtenNumber here
         written-answer r e = rw (← same-written) e

@@ -1,11 +1,10 @@
 -- What the exported writers and readers of the two blocks answer, and the arrays that they leave.
 -- Assumes nothing.
 use Prim.Native.Nat.{ℕ, _+_, _*_, _/_, _%_}
-use mathlib.Core.Bool.{Bool, cond, _&&_}
+use mathlib.Core.Bool.{Bool, cond}
 use mathlib.Core.List.{List, [], _∷_, _++_}
 use lib.Dec.{eqb}
 use lib.ListN.{length, take}
-use Rattle.head.specs.Range.{inRange}
 use Rattle.head.specs.declared.state.Flags.{Flags}
 use Rattle.blocks.specs.Numbers.{refusalNumber, refusalPlace}
 use Rattle.blocks.specs.Written.{writtenIf}
@@ -25,7 +24,7 @@ use Rattle.blocks.specs.declared.ccd.CcdBits.{CcdBits}
 use Rattle.blocks.specs.declared.ccd.CcdMeaning.{CcdMeaning}
 use Rattle.blocks.specs.declared.ccd.CcdAnswer.{CcdAnswer}
 use Rattle.blocks.specs.declared.ccd.CcdAnswer.the-variants as ccd
-use Rattle.interface.specs.State.{bitOf, stateOf, wellFormed}
+use Rattle.interface.specs.State.{bitOf, stateOf, valid}
 
 -- A bit is read off a number as its lowest; bits above those named here say nothing.
 abbrev pub odd : ℕ → Bool
@@ -47,7 +46,7 @@ ccdBitsIn n = record { latchup = odd n }
 unfoldable pub blockWritten : ℕ → ℕ → List ℕ → List ℕ → List ℕ → Written
 blockWritten n count l readings buffer =
     cond (eqb (length readings) count)
-    (writtenIf n (wellFormed l && inRange (stateOf l)) buffer)
+    (writtenIf n (valid l) buffer)
     (written.Refused Length)
 
 -- An acquisition ended where ended is 1.

@@ -1,5 +1,6 @@
 pub mod State
 pub mod Stepping
+pub mod InPlace
 pub mod Codec
 pub mod Plans
 pub mod Blocks

@@ -5,6 +5,7 @@ use mathlib.Core.Bool.{Bool, cond, _&&_}
 use mathlib.Core.List.{List, [], _∷_, _++_}
 use lib.Dec.{eqb, leb}
 use lib.ListN.{length, getD}
+use Rattle.head.specs.Range.{inRange}
 use Rattle.head.specs.declared.state.Head.{Head}
 use Rattle.head.specs.declared.state.Settings.{Settings}
 use Rattle.head.specs.declared.state.Latches.{Latches}
@@ -61,19 +62,14 @@ registerNumbers r l =
     ∷ l .vdetadj
     ∷ []
 
+-- Places 22-26.
+abbrev pub flagNumbers : Flags → List ℕ
+flagNumbers f =
+    bitOf (f .irtime) ∷ bitOf (f .irword) ∷ bitOf (f .scan) ∷ bitOf (f .vistime) ∷ bitOf (f .visword) ∷ []
+
 -- Places 22-30: what a tick can change.
 abbrev pub activityNumbers : Flags → Work → Motion → List ℕ
-activityNumbers f w m =
-    bitOf (f .irtime)
-    ∷ bitOf (f .irword)
-    ∷ bitOf (f .scan)
-    ∷ bitOf (f .vistime)
-    ∷ bitOf (f .visword)
-    ∷ taskNumber (w .task)
-    ∷ w .busy
-    ∷ m .mirror
-    ∷ m .cover
-    ∷ []
+activityNumbers f w m = flagNumbers f ++ (taskNumber (w .task) ∷ w .busy ∷ m .mirror ∷ m .cover ∷ [])
 
 -- Places 31-34.
 abbrev pub begunNumbers : Begun → List ℕ
@@ -143,3 +139,7 @@ wellFormed l =
     && leb (at l 25) 1
     && leb (at l 26) 1
     && leb (at l 27) 2)
+
+-- A state in range.
+unfoldable pub valid : List ℕ → Bool
+valid l = wellFormed l && inRange (stateOf l)

@@ -2,19 +2,18 @@
 -- and left as it was given.
 -- Assumes nothing.
 use Prim.Native.Nat.{ℕ, _+_, _*_}
-use mathlib.Core.Bool.{cond, _&&_}
+use mathlib.Core.Bool.{cond}
 use mathlib.Core.List.{List}
 use lib.Dec.{eqb}
 use lib.ListN.{length}
 use Rattle.head.specs.State.{powerOn}
-use Rattle.head.specs.Range.{inRange}
 use Rattle.head.specs.Word.{answerOf}
 use Rattle.head.specs.Tick.{tickOf}
 use Rattle.head.specs.Numbers.{outcomeNumber}
 use Rattle.head.specs.declared.state.Flags.{Flags}
 use Rattle.head.specs.declared.tick.Due.{Due}
 use Rattle.head.specs.declared.tick.Due.the-variants.{Nothing, Blocks, Refused}
-use Rattle.interface.specs.State.{places, bitOf, taskNumber, numbersOf, stateOf, wellFormed}
+use Rattle.interface.specs.State.{places, bitOf, taskNumber, numbersOf, stateOf, wellFormed, valid}
 
 -- Document 01's number for a state outside its ranges.
 abbrev pub stateRefused : ℕ
@@ -28,7 +27,7 @@ unfoldable pub powerOnState : List ℕ → List ℕ
 powerOnState l = cond (eqb (length l) places) (numbersOf powerOn) l
 
 unfoldable pub rangeAnswer : List ℕ → ℕ
-rangeAnswer l = cond (wellFormed l && inRange (stateOf l)) 0 stateRefused
+rangeAnswer l = cond (valid l) 0 stateRefused
 
 -- A word's answer is the number of its outcome.
 unfoldable pub wordAnswer : List ℕ → ℕ → ℕ

@@ -5,14 +5,12 @@ use blocks::written::Written;
 use head::state::Flags;
 use head::state::Task;
 use head::word::Act;
-use head::word::Cause;
-use head::word::Outcome;
 use schedule::Translated;
 use words::Decoded;
 use words::Encoded;
 ghost use mathlib.Core.Path.{_≡_};
 ghost use Prim.Native.Nat.{_+_, _*_, _≤_, _<_, _^_};
-ghost use Rattle.head.specs.Numbers.{actNumber, causeNumber, outcomeNumber};
+ghost use Rattle.head.specs.Numbers.{actNumber};
 ghost use Rattle.blocks.specs.Numbers.{refusalNumber, refusalPlace, writtenNumber};
 ghost use Rattle.interface.specs.Blocks.{refusalAnswer, mostPlace};
 ghost use Rattle.interface.specs.State.{bitOf, taskNumber};
@@ -31,7 +29,7 @@ pub const PLAN_STATE: u64 = 1;
 
 pub const PLAN_SHORT: u8 = 10;
 
-fn act_number(act: Act) -> u32
+pub fn act_number(act: Act) -> u32
     ensures { λ r. ⌜ r ≡ actNumber act ⌝ }
 {
     match act {
@@ -39,28 +37,6 @@ fn act_number(act: Act) -> u32
         Act::Exposure => 1,
         Act::Request => 2,
         Act::Cover(bits) => 0x1000 + bits as u32,
-    }
-}
-
-fn cause_number(cause: Cause) -> u32
-    ensures { λ r. ⌜ r ≡ causeNumber cause ⌝ }
-{
-    match cause {
-        Cause::State => STATE_REFUSED,
-        Cause::Busy => 22,
-        Cause::CoverMoving => 22,
-        Cause::UnknownWord => 23,
-        Cause::Range => 24,
-        Cause::Turn => 25,
-    }
-}
-
-pub fn outcome_number(outcome: Outcome) -> u32
-    ensures { λ r. ⌜ r ≡ outcomeNumber outcome ⌝ }
-{
-    match outcome {
-        Outcome::Taken(act) => act_number(act),
-        Outcome::Ignored(cause) => cause_number(cause),
     }
 }
 

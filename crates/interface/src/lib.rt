@@ -3,6 +3,7 @@
 pub mod answers;
 pub mod readings;
 pub mod state;
+pub mod stepping;
 
 use blocks::ccd::CCD_READINGS;
 use blocks::ccd::CCD_WORDS;
@@ -15,7 +16,6 @@ use blocks::ir::IrAnswer;
 use blocks::ir::read_ir;
 use blocks::ir::write_ir;
 use head::state::Head;
-use head::tick::Due;
 use schedule::translate::translate;
 use state::PLACES;
 ghost use mathlib.Core.Path.{_≡_};
@@ -50,10 +50,7 @@ pub extern "C" fn shabgozim_power_on(state: &mut [u16]) -> u32
 pub extern "C" fn shabgozim_in_range(state: &[u16]) -> u32
     ensures { λ r. ⌜ r ≡ rangeAnswer (now (state .entry)) ⌝ }
 {
-    if !state::well_formed(state) {
-        return answers::STATE_REFUSED;
-    }
-    if state::load(state).in_range() {
+    if stepping::in_range(state) {
         return 0;
     }
     answers::STATE_REFUSED
@@ -65,14 +62,10 @@ pub extern "C" fn shabgozim_word(state: &mut [u16], word: u16) -> u32
     ensures { λ r. ⌜ r ≡ wordAnswer (now (state .entry)) word ⌝ }
     ensures { λ _. ⌜ now (state .exit) ≡ wordState (now (state .entry)) word ⌝ }
 {
-    if !state::well_formed(state) {
+    if !stepping::in_range(state) {
         return answers::STATE_REFUSED;
     }
-    let answered = state::load(state).word(word);
-    let head = answered.head;
-    let outcome = answered.outcome;
-    state::store(state, head);
-    answers::outcome_number(outcome)
+    stepping::word(state, word)
 }
 
 // Lets a tick pass.
@@ -81,23 +74,10 @@ pub extern "C" fn shabgozim_tick(state: &mut [u16]) -> u32
     ensures { λ r. ⌜ r ≡ tickAnswer (now (state .entry)) ⌝ }
     ensures { λ _. ⌜ now (state .exit) ≡ tickState (now (state .entry)) ⌝ }
 {
-    if !state::well_formed(state) {
+    if !stepping::in_range(state) {
         return answers::STATE_REFUSED;
     }
-    let ticked = state::load(state).tick();
-    let head = ticked.head;
-    let due = ticked.due;
-    match due {
-        Due::Nothing => {
-            state::store_ticks(state, head.work.busy, head.motion.mirror, head.motion.cover);
-            0
-        }
-        Due::Blocks { ended, flags } => {
-            state::store_activity(state, head);
-            answers::blocks_number(ended, flags)
-        }
-        Due::Refused => answers::STATE_REFUSED,
-    }
+    stepping::tick(state)
 }
 
 #[no_mangle]

@@ -12,7 +12,7 @@ ghost use mathlib.Core.List.{[], _∷_};
 ghost use Prim.Native.Nat.{_+_, _≤_};
 ghost use lib.ListN.{length};
 ghost use lib.Seq.{sets};
-ghost use Rattle.interface.specs.State.{places, bitOf, taskNumber, taskOf, settingsOf, flagsOf, stateOf, registerNumbers, activityNumbers, begunNumbers, numbersOf, wellFormed};
+ghost use Rattle.interface.specs.State.{places, bitOf, taskNumber, taskOf, settingsOf, flagsOf, stateOf, registerNumbers, flagNumbers, activityNumbers, begunNumbers, numbersOf, wellFormed};
 
 pub const PLACES: usize = 35;
 
@@ -32,7 +32,7 @@ pub fn task_number(task: Task) -> u16
     }
 }
 
-fn task_of(n: u16) -> Task
+pub(crate) fn task_of(n: u16) -> Task
     ensures { λ r. ⌜ r ≡ taskOf n ⌝ }
 {
     match n {
@@ -80,7 +80,7 @@ fn settings_of(s: &[u16]) -> Settings
     }
 }
 
-fn flags_of(s: &[u16]) -> Flags
+pub(crate) fn flags_of(s: &[u16]) -> Flags
     requires { ⌜ length (now s) ≡ places ⌝ }
     ensures { λ r. ⌜ r ≡ flagsOf (now (s .entry)) ⌝ }
 {
@@ -150,6 +150,18 @@ fn register_numbers(settings: Settings, latches: Latches) -> [u16; 22]
     ]
 }
 
+pub(crate) fn flag_numbers(flags: Flags) -> [u16; 5]
+    ensures { λ r. ⌜ r ≡ flagNumbers flags ⌝ }
+{
+    [
+        bit(flags.irtime),
+        bit(flags.irword),
+        bit(flags.scan),
+        bit(flags.vistime),
+        bit(flags.visword),
+    ]
+}
+
 fn activity_numbers(flags: Flags, work: Work, motion: Motion) -> [u16; 9]
     ensures { λ r. ⌜ r ≡ activityNumbers flags work motion ⌝ }
 {
@@ -185,22 +197,8 @@ pub(crate) fn put(s: &mut [u16], at: usize, numbers: &[u16])
     }
 }
 
-pub(crate) fn store(s: &mut [u16], head: Head)
-    requires { ⌜ length (now s) ≡ places ⌝ }
-    ensures { λ _. ⌜ now (s .exit) ≡ numbersOf head ⌝ }
-{
-    let settings = head.settings;
-    let latches = head.latches;
-    let begun = head.begun;
-    let registers = register_numbers(settings, latches);
-    let last = begun_numbers(begun);
-    put(s, 0, &registers);
-    store_activity(s, head);
-    put(s, 31, &last);
-}
-
-// Stores what a tick can change.
-pub(crate) fn store_activity(s: &mut [u16], head: Head)
+// Stores flags, work and motion.
+fn put_activity(s: &mut [u16], head: Head)
     requires { ⌜ length (now s) ≡ places ⌝ }
     ensures { λ _. ⌜ now (s .exit) ≡ sets (now (s .entry)) 22 (activityNumbers (head .flags) (head .work) (head .motion)) ⌝ }
 {
@@ -211,12 +209,16 @@ pub(crate) fn store_activity(s: &mut [u16], head: Head)
     put(s, 22, &activity);
 }
 
-// Stores the ticks that are left.
-pub(crate) fn store_ticks(s: &mut [u16], busy: u16, mirror: u16, cover: u16)
+pub(crate) fn store(s: &mut [u16], head: Head)
     requires { ⌜ length (now s) ≡ places ⌝ }
-    ensures { λ _. ⌜ now (s .exit) ≡ sets (now (s .entry)) 28 (busy ∷ mirror ∷ cover ∷ []) ⌝ }
+    ensures { λ _. ⌜ now (s .exit) ≡ numbersOf head ⌝ }
 {
-    s[28] = busy;
-    s[29] = mirror;
-    s[30] = cover;
+    let settings = head.settings;
+    let latches = head.latches;
+    let begun = head.begun;
+    let first = register_numbers(settings, latches);
+    let last = begun_numbers(begun);
+    put(s, 0, &first);
+    put_activity(s, head);
+    put(s, 31, &last);
 }

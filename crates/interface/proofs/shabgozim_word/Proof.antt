@@ -1,30 +1,21 @@
 -- `interface::shabgozim_word` meets its contract.
 -- Assumes nothing.
-use Rattle.interface.proofs.Ways.{long, word-ill, word-ill-left, word-answer, word-state}
+use Rattle.interface.proofs.Ways.{word-refused, word-left, held, held-long, word-answer, word-state}
 use borrow.Author.Needs.{needs}
 use Rattle.interface.proofs.shabgozim_word.Statement.{statement}
 use Rattle.interface.proofs.shabgozim_word.Tie as tie
 
-well-formed-requires : tie.Need-well-formed-requires
-well-formed-requires c κs = search needs
+in-range-requires : tie.Need-in-range-requires
+in-range-requires c κs = search needs
 
 same-length : tie.Need-same-length
 same-length c = search needs
 
 returns : tie.Need-returns
-returns c = search (needs, word-ill, word-ill-left)
-
-load-requires : tie.Need-load-requires
-load-requires c κs = search (needs, long)
+returns c = search (needs, word-refused, word-left)
 
 word-requires : tie.Need-word-requires
-word-requires c κs = search needs
-
-store-requires : tie.Need-store-requires
-store-requires c κs = search (needs, long)
-
-outcome-number-requires : tie.Need-outcome-number-requires
-outcome-number-requires c κs = search needs
+word-requires c κs = search (needs, held, held-long)
 
 same-length-2 : tie.Need-same-length-2
 same-length-2 c = search needs
@@ -35,13 +26,4 @@ returns-2 c = search (needs, word-answer, word-state)
 pub shabgozim-word-spec : {M : Type 1} → statement M
 shabgozim-word-spec =
     tie.close
-    (tie.spec
-    well-formed-requires
-    same-length
-    returns
-    load-requires
-    word-requires
-    store-requires
-    outcome-number-requires
-    same-length-2
-    returns-2)
+    (tie.spec in-range-requires same-length returns word-requires same-length-2 returns-2)

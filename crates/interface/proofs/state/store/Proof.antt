@@ -17,8 +17,8 @@ slice-aggregate-put c = search needs
 put-requires : tie.Need-put-requires
 put-requires c κs = search needs
 
-store-activity-requires : tie.Need-store-activity-requires
-store-activity-requires c κs = search needs
+put-activity-requires : tie.Need-put-activity-requires
+put-activity-requires c κs = search needs
 
 slice-aggregate-put-2 : tie.Need-slice-aggregate-put-2
 slice-aggregate-put-2 c = search needs
@@ -40,7 +40,7 @@ store-spec =
     begun-numbers-requires
     slice-aggregate-put
     put-requires
-    store-activity-requires
+    put-activity-requires
     slice-aggregate-put-2
     put-requires-2
     same-length

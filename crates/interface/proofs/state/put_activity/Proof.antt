@@ -1,9 +1,9 @@
--- `interface::state::store_activity` meets its contract.
+-- `interface::state::put_activity` meets its contract.
 -- Assumes nothing.
 use Rattle.interface.proofs.Storing.{put-these}
 use borrow.Author.Needs.{needs}
-use Rattle.interface.proofs.state.store_activity.Statement.{statement}
-use Rattle.interface.proofs.state.store_activity.Tie as tie
+use Rattle.interface.proofs.state.put_activity.Statement.{statement}
+use Rattle.interface.proofs.state.put_activity.Tie as tie
 
 activity-numbers-requires : tie.Need-activity-numbers-requires
 activity-numbers-requires c κs = search needs
@@ -20,7 +20,7 @@ same-length c = search needs
 returns : tie.Need-returns
 returns c = search (needs, put-these)
 
-pub store-activity-spec : {M : Type 1} → statement M
-store-activity-spec =
+pub put-activity-spec : {M : Type 1} → statement M
+put-activity-spec =
     tie.close
     (tie.spec activity-numbers-requires slice-aggregate-put put-requires same-length returns)
