@@ -3,7 +3,7 @@
 use mathlib.Core.Path.{_≡_, refl}
 use mathlib.Core.Bool.{Bool, true, _&&_}
 use mathlib.Core.List.{List, []}
-use Prim.Native.Nat.{ℕ, _+_, _-_, _*_, _<_, _≤_, _/_, _%_}
+use Prim.Native.Nat.{ℕ, _+_, _-_, _*_, _^_, _<_, _≤_, _/_, _%_}
 use native.Mathlib.Decide.{decLe}
 use native.Mathlib.Nat.{le-of-lt, mul-le-mul}
 use native.Mathlib.Omega.{arith}
@@ -15,7 +15,7 @@ use mir.Syntax.{w64}
 use mir.Val.{Fits}
 use mir.Facts.{fits-le, fits-lit}
 use Rattle.words.proofs.Tables.{agree, agree-at, tabulates, tabulates-at}
-use Rattle.plan.specs.Codes.{Range, _to_, Row, b, rows, rowOf, placeOf, countOf, widthOf, lengthOf, rangeOf, holds}
+use Rattle.plan.specs.Codes.{Range, _to_, Row, b, rows, rowOf, placeOf, digitAt, countOf, widthOf, lengthOf, rangeOf, holds}
 
 -- a table of eighteen rows of four holds the function's values
 abbrev pub tabulates4 : List (List ℕ) → (ℕ → ℕ → ℕ) → Bool
@@ -56,11 +56,18 @@ place-below code = go (decLe code 17)
     go (yes h) = omega (arith, place-code code h)
     go (no h) = omega (arith, place-none code (omega arith))
 
--- a table of what each row says gives it for every code
-row-by : (t : List ℕ) (g : Row → ℕ) (code : ℕ) → T (tabulates t (λ k. g (rowOf k)) 18)
-    → getD t (placeOf code) 0 ≡ g (rowOf code)
-row-by t g code ok =
-    rw (← place-row code) (tabulates-at t (λ k. g (rowOf k)) 18 ok (placeOf code) (place-below code))
+-- octal digits that are what each row says are so for every code
+row-by : (n : ℕ) (g : Row → ℕ) (code : ℕ) → T (agree (λ k. n / 2 ^ (3 * k) % 8) (λ k. g (rowOf k)) 18) → digitAt n code ≡ g (rowOf code)
+row-by n g code ok =
+    rw (← place-row code) (agree-at (λ k. n / 2 ^ (3 * k) % 8) (λ k. g (rowOf k)) 18 ok (placeOf code) (place-below code))
+
+pub count-by : (n code : ℕ) → T (agree (λ k. n / 2 ^ (3 * k) % 8) countOf 18) → digitAt n code ≡ countOf code
+unfolding countOf
+count-by n code ok = row-by n (λ r. length (r .fields)) code ok
+
+pub width-by : (n code : ℕ) → T (agree (λ k. n / 2 ^ (3 * k) % 8) widthOf 18) → digitAt n code ≡ widthOf code
+unfolding widthOf
+width-by n code ok = row-by n (λ r. r .width) code ok
 
 module _ (code p : ℕ) (is : p ≡ placeOf code) where
   pub place-index : p < 18
@@ -68,14 +75,6 @@ module _ (code p : ℕ) (is : p ≡ placeOf code) where
 
   pub place-fits : (size : ℕ) → size ≤ 8 → Fits w64 (p * size)
   place-fits size h = fits-le (mul-le-mul (le-of-lt place-index) h) (fits-lit tt)
-
-  pub count-by : (t : List ℕ) → T (tabulates t countOf 18) → getD t p 0 ≡ countOf code
-  unfolding countOf
-  count-by t ok = rw is (row-by t (λ r. length (r .fields)) code ok)
-
-  pub width-by : (t : List ℕ) → T (tabulates t widthOf 18) → getD t p 0 ≡ widthOf code
-  unfolding widthOf
-  width-by t ok = rw is (row-by t (λ r. r .width) code ok)
 
   -- tables of the least and the greatest values decide what a field may hold
   range-by : (t : List (List ℕ)) (g : Range → ℕ) (i : ℕ) → i < 4 → T (tabulates4 t (λ k j. g (rangeOf k j)))

@@ -1,6 +1,6 @@
 -- Document 01, "Plans": the seventeen codes of an order, their fields and the fields' ranges.
 -- Assumes nothing.
-use Prim.Native.Nat.{ℕ, _+_, _*_}
+use Prim.Native.Nat.{ℕ, _+_, _*_, _^_, _/_, _%_}
 use mathlib.Core.Bool.{Bool, true, false, cond, _&&_, _||_}
 use mathlib.Core.List.{List, [], _∷_}
 use lib.Dec.{leb, eqb}
@@ -111,6 +111,10 @@ rowOf code = getD rows code (b [])
 -- The place of a code's row; what is no code has row 0.
 unfoldable pub placeOf : ℕ → ℕ
 placeOf code = cond (leb code 17) code 0
+
+-- The octal digit at a code's place.
+abbrev pub digitAt : ℕ → ℕ → ℕ
+digitAt digits code = digits / 2 ^ (3 * placeOf code) % 8
 
 -- How many fields a code has, and the bytes of each.
 unfoldable pub countOf : ℕ → ℕ

@@ -1,6 +1,6 @@
 // The seventeen codes of an order, and the tables of their fields (document 01, "Plans").
 ghost use mathlib.Core.Path.{_≡_};
-ghost use Rattle.plan.specs.Codes.{known, placeOf, countOf, widthOf, lengthOf, rangeOf, holds};
+ghost use Rattle.plan.specs.Codes.{known, placeOf, digitAt, countOf, widthOf, lengthOf, rangeOf, holds};
 
 pub const VDETCOM: u8 = 1;
 
@@ -39,49 +39,10 @@ pub const WAIT: u8 = 17;
 // The most fields that a code has.
 pub const MOST_FIELDS: usize = 4;
 
-// How many fields each code has. In these tables row 0 is no code.
-const COUNT: [usize; 18] = [
-    0, // none
-    1, // VDETCOM
-    1, // VDETADJ
-    2, // IR delay, expo
-    2, // CCD delay, expo
-    1, // window mode
-    4, // window X1, Y1, X2, Y2
-    1, // detector
-    2, // CCD lamp on, current
-    2, // IR lamp on, current
-    2, // shutter closed, current
-    2, // annealing on, limit
-    2, // mirror sine, cosine
-    1, // motor
-    4, // cover direction, wave, sensors, steps
-    0, // expose
-    0, // housekeeping
-    1, // wait
-];
+// What each code has: an octal digit for each code, that of code 0 (none) last. The number of its fields, and the bytes of each.
+const COUNTS: u64 = 0o1_0_0_4_1_2_2_2_2_2_1_4_1_2_2_1_1_0;
 
-// The bytes of each field.
-const WIDTH: [usize; 18] = [
-    1, // none
-    2, // VDETCOM
-    2, // VDETADJ
-    2, // IR delay, expo
-    2, // CCD delay, expo
-    1, // window mode
-    2, // window X1, Y1, X2, Y2
-    1, // detector
-    1, // CCD lamp on, current
-    1, // IR lamp on, current
-    1, // shutter closed, current
-    1, // annealing on, limit
-    2, // mirror sine, cosine
-    1, // motor
-    1, // cover direction, wave, sensors, steps
-    1, // expose
-    1, // housekeeping
-    2, // wait
-];
+const WIDTHS: u64 = 0o2_1_1_1_1_2_1_1_1_1_1_2_1_2_2_2_2_1;
 
 // The least and the greatest value of each field; a field that the code has not may hold anything.
 const LEAST: [[u16; 4]; 18] = [
@@ -140,18 +101,25 @@ pub fn place_of(code: u8) -> usize
     if code <= WAIT { code as usize } else { 0 }
 }
 
+// The octal digit at a code's place.
+pub(crate) fn digit(digits: u64, code: u8) -> usize
+    ensures { λ r. ⌜ r ≡ digitAt digits code ⌝ }
+{
+    ((digits >> (3 * place_of(code))) % 8) as usize
+}
+
 // How many fields a code has; what is no code has none.
 pub fn count_of(code: u8) -> usize
     ensures { λ r. ⌜ r ≡ countOf code ⌝ }
 {
-    COUNT[place_of(code)]
+    digit(COUNTS, code)
 }
 
 // The bytes of each field of a code.
 pub fn width_of(code: u8) -> usize
     ensures { λ r. ⌜ r ≡ widthOf code ⌝ }
 {
-    WIDTH[place_of(code)]
+    digit(WIDTHS, code)
 }
 
 // What the length byte of an order counts: the code and the fields.

@@ -1,23 +1,18 @@
--- `plan::codes::width_of` meets its contract: the table agrees with `widthOf` at every place.
+-- `plan::codes::width_of` meets its contract: the digits are `widthOf` at every place.
 -- Assumes nothing.
+use mathlib.Core.Path.{_∙_}
 use borrow.Author.Needs.{needs}
 use Rattle.plan.specs.Codes.{rows, widthOf}
-use Rattle.plan.proofs.Rows.{place-fits, place-index, width-by}
+use Rattle.plan.proofs.Rows.{width-by}
 use Rattle.plan.proofs.codes.width_of.Statement.{statement}
 use Rattle.plan.proofs.codes.width_of.Tie as tie
 
-place-of-requires : tie.Need-place-of-requires
-place-of-requires c κs = search needs
-
-mul-result : tie.Need-mul-result
-mul-result c = search (needs, place-fits)
-
-array-read-result : tie.Need-array-read-result
-array-read-result c = search (needs, place-index)
+digit-requires : tie.Need-digit-requires
+digit-requires c κs = search needs
 
 returns : tie.Need-returns
 unfolding rows widthOf
-returns c = search (needs, width-by)
+returns c = c .digit .ensures ∙ width-by _ _ tt
 
 pub width-of-spec : {M : Type 1} → statement M
-width-of-spec = tie.close (tie.spec place-of-requires mul-result array-read-result returns)
+width-of-spec = tie.close (tie.spec digit-requires returns)
