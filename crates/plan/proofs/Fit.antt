@@ -1,66 +1,21 @@
 -- How the code judges the fields of an order, and what an order whose fields fit says of them.
 -- Assumes nothing.
-use mathlib.Core.Path.{_≡_, subst}
-use mathlib.Core.Bool.{Bool, true, _&&_, _||_, and-true, false≢true}
+use mathlib.Core.Path.{_≡_, refl, sym, subst}
+use mathlib.Core.Bool.{Bool, true, false, _&&_, _||_, and-true, false≢true}
 use mathlib.Core.List.{List, [], _∷_}
-use Prim.Native.Nat.{ℕ, _+_, _<_, _≤_}
-use native.Mathlib.Decide.{ℕ-discrete}
+use Prim.Native.Nat.{ℕ, zero, suc, _+_, _<_, _≤_}
+use native.Mathlib.Decide.{ℕ-discrete, decLe}
 use native.Mathlib.Omega.{arith}
-use borrow.Author.Tests.{eq-eqb, ne-eqb, leb-true}
+use borrow.Author.Tests.{ne-eqb, le-leb, leb-true}
 use lib.Arith.{lt-of-le-ne}
-use lib.Dec.{leb, eqb}
-use lib.ListN.{length, getD}
+use lib.Dec.{leb, leb·zero, eqb}
+use lib.ListN.{getD, List·getD-eq-default}
 use Rattle.words.proofs.Tests.{and-left, and-right}
-use Rattle.plan.specs.Codes.{Range, _to_, rows, rowOf, rangeOf, holds, within, fieldsOf, related, fieldsFit, known, fit, window, mirror}
+use Rattle.plan.specs.Codes as code
+use Rattle.plan.specs.Codes.{Range, _to_, rows, rowOf, holds, within, fieldsOf, related, recoded, fieldsFit, known, fit, window, mirror, cover}
 use Rattle.plan.specs.declared.order.Order.{Order}
-use Rattle.plan.proofs.Rows.{few, holds-any}
 
--- the three ways through the test of related fields
-module _ (o : Order) where
-  pub related-window : o .code ≡ window → eqb (o .c) (o .a + 875) ≡ related o
-  unfolding related
-  related-window h = rw (eq-eqb (o .code) window h)
-
-  module _ (other : o .code ≡ window → ⊥) where
-    pub related-mirror : o .code ≡ mirror → (leb (o .a) 4095 || leb 61441 (o .a)) ≡ related o
-    unfolding related
-    related-mirror h = rw (ne-eqb (o .code) window other, eq-eqb (o .code) mirror h)
-
-    pub related-other : (o .code ≡ mirror → ⊥) → true ≡ related o
-    unfolding related
-    related-other h = rw (ne-eqb (o .code) window other, ne-eqb (o .code) mirror h)
-
--- the range of the ith value; past the ranges any value of sixteen bits is in it
-abbrev own : List Range → ℕ → Range
-own rs i = getD rs i (0 to 65535)
-
--- four values are within their ranges where each is in its own
-module _ (a b c d : ℕ) (fa : a < 65536) (fb : b < 65536) (fc : c < 65536) (fd : d < 65536) where
-  within-each : (rs : List Range) → length rs ≤ 4
-      → (holds (own rs 0) a && (holds (own rs 1) b && (holds (own rs 2) c && holds (own rs 3) d))) ≡ within rs (a ∷ b ∷ c ∷ d ∷ [])
-  unfolding within
-  within-each [] h = rw (← holds-any a fa, ← holds-any b fb, ← holds-any c fc, ← holds-any d fd)
-  within-each (r ∷ []) h = rw (← holds-any b fb, ← holds-any c fc, ← holds-any d fd)
-  within-each (r ∷ s ∷ []) h = rw (← holds-any c fc, ← holds-any d fd)
-  within-each (r ∷ s ∷ t ∷ []) h = rw (← holds-any d fd)
-  within-each (r ∷ s ∷ t ∷ u ∷ []) h = rw (and-true (holds u d))
-  within-each (r ∷ s ∷ t ∷ u ∷ v ∷ rs) h = absurd (omega arith)
-
--- the fields fit where each is in its own range and the related ones agree
-pub fields-fit-each : (o : Order) (a b c d r : Bool)
-    → o .a < 65536 → o .b < 65536 → o .c < 65536 → o .d < 65536
-    → a ≡ holds (rangeOf (o .code) 0) (o .a) → b ≡ holds (rangeOf (o .code) 1) (o .b)
-    → c ≡ holds (rangeOf (o .code) 2) (o .c) → d ≡ holds (rangeOf (o .code) 3) (o .d)
-    → r ≡ related o → (a && (b && (c && d)) && r) ≡ fieldsFit o
-unfolding rows rangeOf fieldsFit
-fields-fit-each o a b c d r fa fb fc fd ia ib ic id ir =
-    rw (ia, ib, ic, id, ir, within-each (o .a) (o .b) (o .c) (o .d) fa fb fc fd (rowOf (o .code) .fields) (few (o .code)))
-
-pub fit-both : (o : Order) (k f : Bool) → k ≡ known (o .code) → f ≡ fieldsFit o → (k && f) ≡ fit o
-unfolding fit
-fit-both o k f is-known is-fit = rw (is-known, is-fit)
-
--- what holds of each of the codes holds of every known one
+-- what holds at n, and from there on, holds of every number that is at least n
 from : (P : ℕ → Type 0) (c n : ℕ) → P n → (n < c → P c) → n ≤ c → P c
 from P c n here later h = go (ℕ-discrete n c)
   where
@@ -68,6 +23,78 @@ from P c n here later h = go (ℕ-discrete n c)
     go (yes e) = subst P e here
     go (no ne) = later (lt-of-le-ne h ne)
 
+-- the fields of a code that has one that is judged, or two, and nothing related
+module _ (o : Order) (alone : related o ≡ true) where
+  pub fits-one : (m : ℕ) → rowOf (o .code) .fields ≡ 0 to m ∷ [] → leb (o .a) m ≡ fieldsFit o
+  unfolding fieldsFit within
+  fits-one m row = rw (row, alone, leb·zero (o .a), and-true (leb (o .a) m), and-true (leb (o .a) m))
+
+  pub fits-from : (l m n : ℕ) → rowOf (o .code) .fields ≡ l to m ∷ 0 to n ∷ []
+      → (leb l (o .a) && leb (o .a) m && leb (o .b) n) ≡ fieldsFit o
+  unfolding fieldsFit within
+  fits-from l m n row =
+      rw (row, alone, leb·zero (o .b), and-true (leb (o .b) n), and-true (leb l (o .a) && leb (o .a) m && leb (o .b) n))
+
+  pub fits-two : (m n : ℕ) → rowOf (o .code) .fields ≡ 0 to m ∷ 0 to n ∷ [] → (leb (o .a) m && leb (o .b) n) ≡ fieldsFit o
+  fits-two m n row = rw (leb·zero (o .a)) at (fits-from 0 m n row)
+
+four : (a b c d : Bool) → (a && b && (c && d)) ≡ (a && (b && (c && (d && true))))
+four true true true d = sym (and-true d)
+four true true false d = refl
+four true false c d = refl
+four false b c d = refl
+
+-- how `match` says that a code is none of those up to n
+abbrev Apart : ℕ → ℕ → Type 0
+Apart c zero = Unit {0}
+Apart c (suc n) = Apart c n × (c ≡ suc n → ⊥)
+
+past : (n c : ℕ) → Apart c n → 1 ≤ c → n < c
+past zero c h p = p
+past (suc n) c h p = lt-of-le-ne (past n c (h .0) p) (λ e. h .1 (sym e))
+
+module _ (o : Order) where
+  pub fits-window : (leb (o .a) 148 && leb (o .b) 0 && (leb 875 (o .c) && leb (o .c) 1023 && (leb 511 (o .d) && leb (o .d) 511)) && eqb (o .c) (o .a + 875))
+      ≡ fieldsFit (recoded window o)
+  unfolding fieldsFit within related rows
+  fits-window =
+      rw (leb·zero (o .a), leb·zero (o .b), four (leb (o .a) 148) (leb (o .b) 0) (leb 875 (o .c) && leb (o .c) 1023) (leb 511 (o .d) && leb (o .d) 511))
+
+  pub fits-cover : (leb (o .a) 1 && leb (o .b) 1 && (leb (o .c) 1 && leb (o .d) 81)) ≡ fieldsFit (recoded cover o)
+  unfolding fieldsFit within related rows
+  fits-cover =
+      rw (
+        leb·zero (o .a),
+        leb·zero (o .b),
+        leb·zero (o .c),
+        leb·zero (o .d),
+        four (leb (o .a) 1) (leb (o .b) 1) (leb (o .c) 1) (leb (o .d) 81),
+        and-true (leb (o .a) 1 && (leb (o .b) 1 && (leb (o .c) 1 && (leb (o .d) 81 && true)))),
+      )
+
+  module _ (room : o .a < 65536) where
+    pub fits-mirror : (leb (o .b) 4095 && (leb (o .a) 4095 || leb 61441 (o .a))) ≡ fieldsFit (recoded mirror o)
+    unfolding fieldsFit within related rows
+    fits-mirror = rw (leb·zero (o .a), le-leb (o .a) 65535 (omega arith), leb·zero (o .b), and-true (leb (o .b) 4095))
+
+    -- an order of no code, or of one past the cover's, has nothing that is judged
+    pub fits-rest : Apart (o .code) 14 → true ≡ fieldsFit o
+    unfolding fieldsFit within related rows
+    fits-rest apart = go (decLe (o .code) 17) (ℕ-discrete 0 (o .code))
+      where
+        go : Dec (o .code ≤ 17) → Dec (0 ≡ o .code) → true ≡ fieldsFit o
+        go k (yes e) = rw (← e)
+        go (yes k) (no ne) =
+            from (λ n. true ≡ fieldsFit (recoded n o)) (o .code) 15 refl (from (λ n. true ≡ fieldsFit (recoded n o)) (o .code) 16 refl
+            (from (λ n. true ≡ fieldsFit (recoded n o)) (o .code) 17 (rw (leb·zero (o .a), le-leb (o .a) 65535 (omega arith))) (λ h. absurd (omega arith))))
+            (past 14 (o .code) apart (lt-of-le-ne (omega arith) ne))
+        go (no k) (no ne) = rw (List·getD-eq-default rows (code.b []) {n = o .code} (omega arith), ne-eqb (o .code) window (λ e. omega arith), ne-eqb (o .code) mirror (λ e. omega arith))
+
+pub fit-both : (o : Order) (k f : Bool) → k ≡ known (o .code) → f ≡ fieldsFit o → (k && f) ≡ fit o
+unfolding fit
+fit-both o k f is-known is-fit = rw (is-known, is-fit)
+
+-- what holds of each of the codes holds of every known one
 module _ (P : ℕ → Type 0)
     (p1 : P 1) (p2 : P 2) (p3 : P 3) (p4 : P 4) (p5 : P 5) (p6 : P 6)
     (p7 : P 7) (p8 : P 8) (p9 : P 9) (p10 : P 10) (p11 : P 11) (p12 : P 12)
@@ -80,10 +107,6 @@ module _ (P : ℕ → Type 0)
       (from P c 9 p9 (from P c 10 p10 (from P c 11 p11 (from P c 12 p12 (from P c 13 p13 (from P c 14 p14 (from P c 15 p15
       (from P c 16 p16 (from P c 17 p17 (λ (past : 17 < c). absurd (omega arith))))))))))))))))))
       (leb-true 1 c (and-left (leb 1 c) (leb c 17) k))
-
--- the order with another code
-abbrev pub recoded : ℕ → Order → Order
-recoded n o = record { code = n; a = o .a; b = o .b; c = o .c; d = o .d }
 
 -- what holds of an order at each of the codes holds of the order
 module _ (P : Order → Type 0) (o : Order)

@@ -15,12 +15,12 @@ use Rattle.words.specs.Codec.{wordOf, encodeOf, decodeOf}
 use Rattle.words.specs.declared.Decoded.the-variants.{Word}
 use Rattle.words.proofs.Codec.{encode-decode}
 use Rattle.plan.specs.Codes as code
-use Rattle.plan.specs.Codes.{known, related, fieldsFit, fit}
+use Rattle.plan.specs.Codes.{recoded, known, related, fieldsFit, fit}
 use Rattle.plan.specs.Words.{sineRegister, wordsOf}
 use Rattle.plan.specs.Encoding.{kindRows, kindsOf, actBits, bitsOf, four, wordIfAllowed, wordsIfFit, listed}
 use Rattle.plan.specs.declared.order.Order.{Order}
 use Rattle.plan.specs.declared.encoding.Words.{Words}
-use Rattle.plan.proofs.Fit.{recoded, by-order, fit-known, fit-fields, fit-bounds, fit-related}
+use Rattle.plan.proofs.Fit.{by-order, fit-known, fit-fields, fit-bounds, fit-related}
 
 -- words made kind by kind
 abbrev pub wordsBy : List ℕ → List ℕ → List ℕ

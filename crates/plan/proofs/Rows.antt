@@ -1,7 +1,7 @@
--- How tables give the fields of a code: their number, their width and their ranges.
+-- What a code has, by its place: the number of its fields and their width.
 -- Assumes nothing.
 use mathlib.Core.Path.{_≡_, refl}
-use mathlib.Core.Bool.{Bool, true, _&&_}
+use mathlib.Core.Bool.{Bool}
 use mathlib.Core.List.{List, []}
 use Prim.Native.Nat.{ℕ, _+_, _-_, _*_, _^_, _<_, _≤_, _/_, _%_}
 use native.Mathlib.Decide.{decLe}
@@ -9,13 +9,13 @@ use native.Mathlib.Nat.{le-of-lt, mul-le-mul}
 use native.Mathlib.Omega.{arith}
 use borrow.Author.Tests.{le-leb, lt-leb}
 use lib.Arith.{digits-div, digits-mod}
-use lib.Dec.{T, leb, leb·zero}
+use lib.Dec.{T}
 use lib.ListN.{length, getD, List·getD-eq-default}
 use mir.Syntax.{w64}
 use mir.Val.{Fits}
 use mir.Facts.{fits-le, fits-lit}
-use Rattle.words.proofs.Tables.{agree, agree-at, tabulates, tabulates-at}
-use Rattle.plan.specs.Codes.{Range, _to_, Row, b, rows, rowOf, placeOf, digitAt, countOf, widthOf, lengthOf, rangeOf, holds}
+use Rattle.words.proofs.Tables.{agree, agree-at}
+use Rattle.plan.specs.Codes.{Row, b, rows, rowOf, placeOf, digitAt, countOf, widthOf, lengthOf}
 
 -- a table of eighteen rows of four holds the function's values
 abbrev pub tabulates4 : List (List ℕ) → (ℕ → ℕ → ℕ) → Bool
@@ -76,18 +76,6 @@ module _ (code p : ℕ) (is : p ≡ placeOf code) where
   pub place-fits : (size : ℕ) → size ≤ 8 → Fits w64 (p * size)
   place-fits size h = fits-le (mul-le-mul (le-of-lt place-index) h) (fits-lit tt)
 
-  -- tables of the least and the greatest values decide what a field may hold
-  range-by : (t : List (List ℕ)) (g : Range → ℕ) (i : ℕ) → i < 4 → T (tabulates4 t (λ k j. g (rangeOf k j)))
-      → getD (getD t p []) i 0 ≡ g (rangeOf code i)
-  unfolding rangeOf
-  range-by t g i h ok = rw (← place-row code, ← is) (tabulates4-at t (λ k j. g (rangeOf k j)) ok p i place-index h)
-
-  pub holds-by : (least greatest : List (List ℕ)) (i v : ℕ) → i < 4
-      → T (tabulates4 least (λ k j. rangeOf k j .least)) → T (tabulates4 greatest (λ k j. rangeOf k j .greatest))
-      → (leb (getD (getD least p []) i 0) v && leb v (getD (getD greatest p []) i 0)) ≡ holds (rangeOf code i) v
-  holds-by least greatest i v h lo hi =
-      rw (range-by least (λ r. r .least) i h lo, range-by greatest (λ r. r .greatest) i h hi)
-
 -- what is at most m in every row is so for every code
 rows-most : (g : Row → ℕ) (m code : ℕ) → T (agree (λ k. g (rowOf k) - m) (λ k. 0) 18) → g (rowOf code) ≤ m
 rows-most g m code ok =
@@ -113,12 +101,3 @@ module _ (code width count : ℕ) (is-width : width ≡ widthOf code) (is-count 
 
   pub fields-fit : Fits w64 (width * count)
   fields-fit = record { fits = omega (arith, length-is, length-most code) }
-
--- any value of sixteen bits may stand where a code has no field
-pub holds-any : (v : ℕ) → v < 65536 → true ≡ holds (0 to 65535) v
-holds-any v h = rw (leb·zero v, le-leb v 65535 (omega arith))
-
-pub holds-past : (code i v : ℕ) → 4 ≤ i → v < 65536 → true ≡ holds (rangeOf code i) v
-unfolding rangeOf
-holds-past code i v h fits =
-    rw (List·getD-eq-default (rowOf code .fields) (0 to 65535) {n = i} (omega (arith, few code))) (holds-any v fits)

@@ -62,6 +62,10 @@ wait = 17
 abbrev pub is : Order → ℕ → Bool
 is o c = eqb (o .code) c
 
+-- The order with another code.
+abbrev pub recoded : ℕ → Order → Order
+recoded n o = record { code = n; a = o .a; b = o .b; c = o .c; d = o .d }
+
 -- The least and the greatest value of a field.
 pub record Range : Type 0 where
   pub least : ℕ
@@ -124,11 +128,6 @@ countOf code = length (rowOf code .fields)
 unfoldable pub widthOf : ℕ → ℕ
 unfolding rows
 widthOf code = rowOf code .width
-
--- The range of the ith field; a field that the code has not may hold anything.
-unfoldable pub rangeOf : ℕ → ℕ → Range
-unfolding rows
-rangeOf code i = getD (rowOf code .fields) i (0 to 65535)
 
 -- Codes are 1-17.
 unfoldable pub known : ℕ → Bool

@@ -1,6 +1,6 @@
 // The seventeen codes of an order, and the tables of their fields (document 01, "Plans").
 ghost use mathlib.Core.Path.{_≡_};
-ghost use Rattle.plan.specs.Codes.{known, placeOf, digitAt, countOf, widthOf, lengthOf, rangeOf, holds};
+ghost use Rattle.plan.specs.Codes.{known, placeOf, digitAt, countOf, widthOf, lengthOf};
 
 pub const VDETCOM: u8 = 1;
 
@@ -36,56 +36,10 @@ pub const HOUSEKEEPING: u8 = 16;
 
 pub const WAIT: u8 = 17;
 
-// The most fields that a code has.
-pub const MOST_FIELDS: usize = 4;
-
 // What each code has: an octal digit for each code, that of code 0 (none) last. The number of its fields, and the bytes of each.
 const COUNTS: u64 = 0o1_0_0_4_1_2_2_2_2_2_1_4_1_2_2_1_1_0;
 
 const WIDTHS: u64 = 0o2_1_1_1_1_2_1_1_1_1_1_2_1_2_2_2_2_1;
-
-// The least and the greatest value of each field; a field that the code has not may hold anything.
-const LEAST: [[u16; 4]; 18] = [
-    [0, 0, 0, 0], // none
-    [0, 0, 0, 0], // VDETCOM
-    [0, 0, 0, 0], // VDETADJ
-    [0, 0, 0, 0], // IR delay, expo
-    [5, 0, 0, 0], // CCD delay, expo
-    [0, 0, 0, 0], // window mode
-    [0, 0, 875, 511], // window X1, Y1, X2, Y2
-    [0, 0, 0, 0], // detector
-    [0, 0, 0, 0], // CCD lamp on, current
-    [0, 0, 0, 0], // IR lamp on, current
-    [0, 0, 0, 0], // shutter closed, current
-    [0, 0, 0, 0], // annealing on, limit
-    [0, 0, 0, 0], // mirror sine, cosine
-    [0, 0, 0, 0], // motor
-    [0, 0, 0, 0], // cover direction, wave, sensors, steps
-    [0, 0, 0, 0], // expose
-    [0, 0, 0, 0], // housekeeping
-    [0, 0, 0, 0], // wait
-];
-
-const GREATEST: [[u16; 4]; 18] = [
-    [65535, 65535, 65535, 65535], // none
-    [4095, 65535, 65535, 65535], // VDETCOM
-    [4095, 65535, 65535, 65535], // VDETADJ
-    [1023, 1023, 65535, 65535], // IR delay, expo
-    [1023, 1023, 65535, 65535], // CCD delay, expo
-    [1, 65535, 65535, 65535], // window mode
-    [148, 0, 1023, 511], // window X1, Y1, X2, Y2
-    [1, 65535, 65535, 65535], // detector
-    [1, 3, 65535, 65535], // CCD lamp on, current
-    [1, 15, 65535, 65535], // IR lamp on, current
-    [1, 15, 65535, 65535], // shutter closed, current
-    [1, 63, 65535, 65535], // annealing on, limit
-    [65535, 4095, 65535, 65535], // mirror sine, cosine
-    [1, 65535, 65535, 65535], // motor
-    [1, 1, 1, 81], // cover direction, wave, sensors, steps
-    [65535, 65535, 65535, 65535], // expose
-    [65535, 65535, 65535, 65535], // housekeeping
-    [65535, 65535, 65535, 65535], // wait
-];
 
 // Codes are 1-17.
 pub fn is_known(code: u8) -> bool
@@ -129,15 +83,4 @@ pub fn length_of(code: u8) -> usize
     let width = width_of(code);
     let count = count_of(code);
     1 + width * count
-}
-
-// Whether the ith field of a code may hold a value.
-pub fn holds(code: u8, i: usize, value: u16) -> bool
-    ensures { λ r. ⌜ r ≡ holds (rangeOf code i) value ⌝ }
-{
-    if MOST_FIELDS <= i {
-        return true;
-    }
-    let row = place_of(code);
-    (LEAST[row][i] <= value) & (value <= GREATEST[row][i])
 }

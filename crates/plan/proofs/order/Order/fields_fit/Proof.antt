@@ -1,35 +1,96 @@
--- `plan::order::Order::fields_fit` meets its contract: a field that the code has not may hold anything.
+-- `plan::order::Order::fields_fit` meets its contract, code by code.
 -- Assumes nothing.
+use mathlib.Core.Path.{_∙_}
+use Rattle.plan.specs.Codes.{rows, related}
+use Rattle.plan.proofs.Fit.{fits-one, fits-from, fits-two, fits-rest}
 use borrow.Author.Needs.{needs}
-use Rattle.plan.proofs.Fit.{fields-fit-each}
 use Rattle.plan.proofs.order.Order.fields_fit.Statement.{statement}
 use Rattle.plan.proofs.order.Order.fields_fit.Tie as tie
 
-holds-requires : tie.Need-holds-requires
-holds-requires c κs = search needs
+window-fits-requires : tie.Need-window-fits-requires
+window-fits-requires c κs = search needs
 
-holds-requires-2 : tie.Need-holds-requires-2
-holds-requires-2 c κs = search needs
+mirror-fits-requires : tie.Need-mirror-fits-requires
+mirror-fits-requires c κs = search needs
 
-holds-requires-3 : tie.Need-holds-requires-3
-holds-requires-3 c κs = search needs
-
-holds-requires-4 : tie.Need-holds-requires-4
-holds-requires-4 c κs = search needs
-
-related-requires : tie.Need-related-requires
-related-requires c κs = search needs
+cover-fits-requires : tie.Need-cover-fits-requires
+cover-fits-requires c κs = search needs
 
 returns : tie.Need-returns
-returns c = search (needs, fields-fit-each)
+unfolding rows related
+returns c = fits-one _ (rw (c .match .keys1)) 4095 (rw (c .match .keys1))
+
+returns-2 : tie.Need-returns-2
+unfolding rows related
+returns-2 c = fits-one _ (rw (c .match .keys2)) 4095 (rw (c .match .keys2))
+
+returns-3 : tie.Need-returns-3
+unfolding rows related
+returns-3 c = fits-two _ (rw (c .match .keys3)) 1023 1023 (rw (c .match .keys3))
+
+returns-4 : tie.Need-returns-4
+unfolding rows related
+returns-4 c = fits-from _ (rw (c .match .keys4)) 5 1023 1023 (rw (c .match .keys4))
+
+returns-5 : tie.Need-returns-5
+unfolding rows related
+returns-5 c = fits-one _ (rw (c .match .keys5)) 1 (rw (c .match .keys5))
+
+returns-6 : tie.Need-returns-6
+returns-6 c = c .window-fits .ensures ∙ rw (← (c .before .match .keys6))
+
+returns-7 : tie.Need-returns-7
+unfolding rows related
+returns-7 c = fits-one _ (rw (c .match .keys7)) 1 (rw (c .match .keys7))
+
+returns-8 : tie.Need-returns-8
+unfolding rows related
+returns-8 c = fits-two _ (rw (c .match .keys8)) 1 3 (rw (c .match .keys8))
+
+returns-9 : tie.Need-returns-9
+unfolding rows related
+returns-9 c = fits-two _ (rw (c .match .keys9)) 1 15 (rw (c .match .keys9))
+
+returns-10 : tie.Need-returns-10
+unfolding rows related
+returns-10 c = fits-two _ (rw (c .match .keys10)) 1 15 (rw (c .match .keys10))
+
+returns-11 : tie.Need-returns-11
+unfolding rows related
+returns-11 c = fits-two _ (rw (c .match .keys11)) 1 63 (rw (c .match .keys11))
+
+returns-12 : tie.Need-returns-12
+returns-12 c = c .mirror-fits .ensures ∙ rw (← (c .before .match .keys12))
+
+returns-13 : tie.Need-returns-13
+unfolding rows related
+returns-13 c = fits-one _ (rw (c .match .keys13)) 1 (rw (c .match .keys13))
+
+returns-14 : tie.Need-returns-14
+returns-14 c = c .cover-fits .ensures ∙ rw (← (c .before .match .keys14))
+
+returns-15 : tie.Need-returns-15
+returns-15 c = fits-rest (c .before .args .self) (search needs) (c .match .rest)
 
 pub fields-fit-spec : {M : Type 1} → statement M
 fields-fit-spec =
     tie.close
     (tie.spec
-    holds-requires
-    holds-requires-2
-    holds-requires-3
-    holds-requires-4
-    related-requires
-    returns)
+    window-fits-requires
+    mirror-fits-requires
+    cover-fits-requires
+    returns
+    returns-2
+    returns-3
+    returns-4
+    returns-5
+    returns-6
+    returns-7
+    returns-8
+    returns-9
+    returns-10
+    returns-11
+    returns-12
+    returns-13
+    returns-14
+    returns-15)
