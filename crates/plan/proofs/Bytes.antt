@@ -1,16 +1,21 @@
 -- How bytes are read into fields, orders and faults: one law for each way through the code.
 -- Assumes nothing.
-use mathlib.Core.Path.{_≡_, sym}
+use mathlib.Core.Path.{_≡_, refl, sym, _∙_}
 use mathlib.Core.Bool.{Bool, true, false, cond, not, or-true}
 use mathlib.Core.List.{List}
 use Prim.Native.Nat.{ℕ, _+_, _*_, _<_, _≤_}
+use native.Mathlib.Decide.{ℕ-discrete}
+use native.Mathlib.Nat.{mul-le-mul, le-refl}
 use native.Mathlib.Omega.{arith}
-use borrow.Author.Tests.{eq-eqb, ne-eqb, lt-ltb, le-ltb}
-use lib.Dec.{eqb}
+use borrow.Author.Tests.{eq-eqb, ne-eqb, lt-ltb, le-ltb, eqb-true}
+use lib.Dec.{T, eqb}
 use lib.ListN.{length, List·getD-eq-default}
 use Rattle.plan.specs.Codes.{rows, countOf, widthOf, known, lengthOf, fieldsFit}
-use Rattle.plan.specs.Stored.{byteAt, pairAt, fieldAt, orderAt, faultAt}
+use Rattle.plan.specs.Stored.{byteAt, pairAt, valueAt, reach, fieldAt, fieldsAt, orderAt, faultAt}
+use Rattle.plan.specs.Judged.{faulty, readAt}
 use Rattle.plan.specs.declared.order.Order.{Order}
+use Rattle.plan.specs.declared.stored.Read.{Read}
+use Rattle.plan.proofs.Rows.{width-some}
 
 -- past the end there is 0
 pub byte-past : (bs : List ℕ) (i : ℕ) → length bs ≤ i → 0 ≡ byteAt bs i
@@ -30,6 +35,26 @@ module _ (bs : List ℕ) (at code i count width r : ℕ) (is-count : count ≡ c
     pub field-one : (width ≡ 2 → ⊥) → r ≡ byteAt bs (at + i) → r ≡ fieldAt bs at code i
     unfolding fieldAt
     field-one h is = rw (← is-count, lt-ltb i count has, ← is-width, ne-eqb width 2 h) is
+
+-- the fields of a code, all there, one after another
+module _ (bs : List ℕ) (at code : ℕ) {width count : ℕ} (is-width : width ≡ widthOf code) (is-count : count ≡ countOf code) where
+  pub field-value : {i r : ℕ} → i < count → r ≡ valueAt bs at (eqb width 2) i → r ≡ fieldAt bs at code i
+  unfolding fieldAt
+  field-value {i} has is = rw (← is-count, lt-ltb i count has, ← is-width) is
+
+  pub field-past : {i : ℕ} → count ≤ i → 0 ≡ fieldAt bs at code i
+  field-past {i} h = field-none bs at code i count width 0 is-count h
+
+  pub field-reach : (i : ℕ) {n : ℕ} → at + widthOf code * countOf code ≤ n → i < count → at + reach (eqb width 2) i ≤ n
+  field-reach i {n} room has = go (ℕ-discrete width 2)
+    where
+      go : Dec (width ≡ 2) → at + reach (eqb width 2) i ≤ n
+      go (yes e) = rw (eq-eqb width 2 e) (let r = rw (← is-width, e, ← is-count) at room in omega arith)
+      go (no ne) = rw (ne-eqb width 2 ne) (let r = mul-le-mul (width-some code) (le-refl (countOf code)) in omega arith)
+
+  pub fields-read : {a b c d : ℕ} → a ≡ fieldAt bs at code 0 → b ≡ fieldAt bs at code 1 → c ≡ fieldAt bs at code 2 → d ≡ fieldAt bs at code 3
+      → record { code = code; a = a; b = b; c = c; d = d } ≡ fieldsAt bs at code
+  fields-read ia ib ic id = rw (ia, ib, ic, id)
 
 -- past the end the order is all 0
 pub order-past : (bs : List ℕ) (at : ℕ) → length bs ≤ at → record { code = 0; a = 0; b = 0; c = 0; d = 0 } ≡ orderAt bs at
@@ -80,3 +105,35 @@ module _ (bs : List ℕ) (at size : ℕ) (is-size : size ≡ byteAt bs at) where
 
           pub fault-field : fits ≡ false → 8 ≡ faultAt bs at
           fault-field h = rw h at fault-last
+
+-- the fields of an order whose length is its code's are all there
+pub fields-room : (at size n code : ℕ) {end : ℕ} → size ≡ n → n ≡ lengthOf code → at + 1 + size ≤ end → at + 2 + widthOf code * countOf code ≤ end
+unfolding lengthOf
+fields-room at size n code right is ends = omega arith
+
+pub order-fields : (bs : List ℕ) (at code : ℕ) {o : Order} → code ≡ byteAt bs (at + 1) → o ≡ fieldsAt bs (at + 2) code → o ≡ orderAt bs at
+unfolding orderAt
+order-fields bs at code is-code is = rw (is, is-code)
+
+-- an order that was read, faulty or whole
+module _ (bs : List ℕ) (at : ℕ) where
+  pub read-faulty : {n : ℕ} {r : Read} → r ≡ faulty n → T (not (eqb n 0)) → n ≡ faultAt bs at → r ≡ readAt bs at
+  unfolding readAt
+  read-faulty {n} is some fault = is ∙ rw (← fault, false-of (eqb n 0) some)
+    where
+      false-of : (z : Bool) → T (not z) → z ≡ false
+      false-of true t = absurd t
+      false-of false t = refl
+
+  pub read-whole : {o : Order} → 0 ≡ faultAt bs at → o ≡ orderAt bs at → record { fault = 0; order = o } ≡ readAt bs at
+  unfolding readAt
+  read-whole none is = rw (← none, is)
+
+pub read-fault : (bs : List ℕ) (at : ℕ) {r : Read} → r ≡ readAt bs at → r .fault ≡ faultAt bs at
+unfolding readAt faulty
+read-fault bs at is = rw is (go (eqb (faultAt bs at) 0) refl)
+  where
+    go : (z : Bool) → eqb (faultAt bs at) 0 ≡ z
+        → cond (eqb (faultAt bs at) 0) (record { fault = 0; order = orderAt bs at }) (faulty (faultAt bs at)) .fault ≡ faultAt bs at
+    go true e = rw e (sym (eqb-true (faultAt bs at) 0 e))
+    go false e = rw e

@@ -76,6 +76,13 @@ module _ (code p : ℕ) (is : p ≡ placeOf code) where
   pub place-fits : (size : ℕ) → size ≤ 8 → Fits w64 (p * size)
   place-fits size h = fits-le (mul-le-mul (le-of-lt place-index) h) (fits-lit tt)
 
+-- a field has a byte at least
+pub width-some : (code : ℕ) → 1 ≤ widthOf code
+unfolding rows widthOf
+width-some code =
+    let none = agree-at (λ k. 1 - rowOf k .width) (λ k. 0) 18 tt (placeOf code) (place-below code) in
+    rw (← place-row code) (omega arith)
+
 -- what is at most m in every row is so for every code
 rows-most : (g : Row → ℕ) (m code : ℕ) → T (agree (λ k. g (rowOf k) - m) (λ k. 0) 18) → g (rowOf code) ≤ m
 rows-most g m code ok =

@@ -1,7 +1,7 @@
 -- Document 01, "Plans": a stored plan, read into its orders or refused with a number and a byte place.
 -- Assumes nothing.
 use Prim.Native.Nat.{ℕ, zero, suc, _+_, _*_}
-use mathlib.Core.Bool.{cond, not, _||_}
+use mathlib.Core.Bool.{Bool, cond, not, _||_}
 use mathlib.Core.List.{List, [], _∷_}
 use lib.Dec.{ltb, eqb}
 use lib.ListN.{length, getD}
@@ -24,22 +24,30 @@ ordersIn (refused n p) = []
 abbrev pub pairAt : List ℕ → ℕ → ℕ
 pairAt bs i = byteAt bs i * 256 + byteAt bs (i + 1)
 
+-- The ith value from a place on, of two bytes or one, and how far the values then reach.
+abbrev pub valueAt : List ℕ → ℕ → Bool → ℕ → ℕ
+valueAt bs at wide i = cond wide (pairAt bs (at + 2 * i)) (byteAt bs (at + i))
+
+abbrev pub reach : Bool → ℕ → ℕ
+reach wide i = cond wide (2 * i + 2) (i + 1)
+
 -- The ith field of an order whose fields start at a place: one byte or two, by the code's row; 0 where the code has fewer.
 unfoldable pub fieldAt : List ℕ → ℕ → ℕ → ℕ → ℕ
-fieldAt bs at code i =
-    cond (ltb i (countOf code)) (cond (eqb (widthOf code) 2) (pairAt bs (at + 2 * i)) (byteAt bs (at + i))) 0
+fieldAt bs at code i = cond (ltb i (countOf code)) (valueAt bs at (eqb (widthOf code) 2) i) 0
+
+abbrev pub fieldsAt : List ℕ → ℕ → ℕ → Order
+fieldsAt bs at code =
+    record {
+      code = code;
+      a = fieldAt bs at code 0;
+      b = fieldAt bs at code 1;
+      c = fieldAt bs at code 2;
+      d = fieldAt bs at code 3;
+    }
 
 -- The order whose length byte is at a place.
 unfoldable pub orderAt : List ℕ → ℕ → Order
-orderAt bs at =
-    let code = byteAt bs (at + 1) in
-    record {
-      code = code;
-      a = fieldAt bs (at + 2) code 0;
-      b = fieldAt bs (at + 2) code 1;
-      c = fieldAt bs (at + 2) code 2;
-      d = fieldAt bs (at + 2) code 3;
-    }
+orderAt bs at = fieldsAt bs (at + 2) (byteAt bs (at + 1))
 
 -- What is wrong with the order at a place, 0 for nothing: 5 order length 0 or past the end, 6 code not 1-17, 7 order length not that
 -- of its code, 8 a field out of range.

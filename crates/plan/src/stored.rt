@@ -5,9 +5,11 @@ use crate::codes::length_of;
 use crate::codes::width_of;
 use crate::order::Order;
 ghost use mathlib.Core.Path.{_≡_};
-ghost use Prim.Native.Nat.{_+_, _<_, _^_};
-ghost use Rattle.plan.specs.Stored.{byteAt, pairAt, fieldAt, orderAt, faultAt, ordersFrom, mostOrders, planOf};
-ghost use Rattle.plan.specs.Judged.{judgedOf};
+ghost use Prim.Native.Nat.{_+_, _*_, _≤_, _<_, _^_};
+ghost use lib.ListN.{length};
+ghost use Rattle.plan.specs.Codes.{countOf, widthOf};
+ghost use Rattle.plan.specs.Stored.{byteAt, pairAt, reach, valueAt, fieldAt, fieldsAt, orderAt, faultAt, ordersFrom, mostOrders, planOf};
+ghost use Rattle.plan.specs.Judged.{faulty, readAt, judgedOf};
 
 // The version of the stored form.
 pub const VERSION: u8 = 1;
@@ -95,29 +97,115 @@ pub fn order_at(plan: &[u8], at: usize) -> Order
     Order { code, a, b, c, d }
 }
 
+// An order that was read: what is wrong with it, a number of document 01's refusal table or 0 for nothing; and where nothing is, itself.
+pub struct Read {
+    pub fault: u8,
+    pub order: Order,
+}
+
+fn faulty(fault: u8) -> Read
+    ensures { λ r. ⌜ r ≡ faulty fault ⌝ }
+{
+    Read {
+        fault,
+        order: Order {
+            code: 0,
+            a: 0,
+            b: 0,
+            c: 0,
+            d: 0,
+        },
+    }
+}
+
+// A byte that is there.
+fn byte(plan: &[u8], i: usize) -> u8
+    requires { ⌜ i < length (now plan) ⌝ }
+    ensures { λ r. ⌜ r ≡ byteAt (now (plan .entry)) i ⌝ }
+{
+    plan[i]
+}
+
+// The ith value from a place on, of two bytes or one.
+fn value_at(plan: &[u8], at: usize, wide: bool, i: usize) -> u16
+    requires { ⌜ at + reach wide i ≤ length (now plan) ⌝ }
+    ensures { λ r. ⌜ r ≡ valueAt (now (plan .entry)) at wide i ⌝ }
+{
+    if wide {
+        let high = byte(plan, at + 2 * i) as u16;
+        let low = byte(plan, at + 2 * i + 1) as u16;
+        return high * 256 + low;
+    }
+    byte(plan, at + i) as u16
+}
+
+// An order whose fields, from a place on, are all there.
+fn fields_at(plan: &[u8], at: usize, code: u8) -> Order
+    requires { ⌜ at + widthOf code * countOf code ≤ length (now plan) ⌝ }
+    ensures { λ r. ⌜ r ≡ fieldsAt (now (plan .entry)) at code ⌝ }
+{
+    let wide = width_of(code) == 2;
+    let count = count_of(code);
+    let mut order = Order {
+        code,
+        a: 0,
+        b: 0,
+        c: 0,
+        d: 0,
+    };
+    if count == 0 {
+        return order;
+    }
+    order.a = value_at(plan, at, wide, 0);
+    if count == 1 {
+        return order;
+    }
+    order.b = value_at(plan, at, wide, 1);
+    if count == 2 {
+        return order;
+    }
+    order.c = value_at(plan, at, wide, 2);
+    if count == 3 {
+        return order;
+    }
+    order.d = value_at(plan, at, wide, 3);
+    order
+}
+
+// The order at a place, read and judged.
+pub fn read_at(plan: &[u8], at: usize) -> Read
+    ensures { λ r. ⌜ r ≡ readAt (now (plan .entry)) at ⌝ }
+{
+    if plan.len() <= at {
+        return faulty(ORDER_LENGTH);
+    }
+    let size = byte(plan, at) as usize;
+    if size == 0 {
+        return faulty(ORDER_LENGTH);
+    }
+    if plan.len() < at + 1 + size {
+        return faulty(ORDER_LENGTH);
+    }
+    let code = byte(plan, at + 1);
+    if !is_known(code) {
+        return faulty(UNKNOWN_CODE);
+    }
+    if size != length_of(code) {
+        return faulty(CODE_LENGTH);
+    }
+    let order = fields_at(plan, at + 2, code);
+    if order.fields_fit() {
+        Read { fault: 0, order }
+    } else {
+        faulty(FIELD_RANGE)
+    }
+}
+
 // What is wrong with the order at a place: a number of document 01's refusal table, 0 for nothing.
 pub fn fault_at(plan: &[u8], at: usize) -> u8
     ensures { λ r. ⌜ r ≡ faultAt (now (plan .entry)) at ⌝ }
 {
-    if plan.len() <= at {
-        return ORDER_LENGTH;
-    }
-    let size = byte_at(plan, at) as usize;
-    if size == 0 {
-        return ORDER_LENGTH;
-    }
-    if plan.len() < at + 1 + size {
-        return ORDER_LENGTH;
-    }
-    let code = byte_at(plan, at + 1);
-    if !is_known(code) {
-        return UNKNOWN_CODE;
-    }
-    if size != length_of(code) {
-        return CODE_LENGTH;
-    }
-    let order = order_at(plan, at);
-    if order.fields_fit() { 0 } else { FIELD_RANGE }
+    read_at(plan, at).fault
 }
 
 // The orders, from the first on.
