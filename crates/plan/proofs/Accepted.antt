@@ -10,7 +10,7 @@ use borrow.Author.Tests.{eqb-true, ltb-false}
 use lib.Dec.{eqb, ltb}
 use lib.ListN.{length, drop}
 use Rattle.plan.specs.Codes.{known, lengthOf, fieldsFit, fit}
-use Rattle.plan.specs.Stored.{Plan, orders, refused, ordersIn, byteAt, pairAt, orderAt, faultAt, before, ordersFrom, mostOrders, planOf}
+use Rattle.plan.specs.Stored.{Plan, orders, refused, ordersIn, byteAt, pairAt, orderAt, faultAt, before, headerFault, ordersFrom, mostOrders, planOf}
 use Rattle.plan.specs.Judged.{judgedOf}
 use Rattle.plan.specs.declared.order.Order.{Order}
 use Rattle.plan.specs.declared.stored.Judged.the-variants.{Accepted, Refused}
@@ -141,7 +141,7 @@ pub record Header (bs : List ℕ) : Type 0 where
 -- an accepted plan: its header, that every order fits, and that there are at most 64
 module _ (bs : List ℕ) (os : List Order) (is : planOf bs ≡ orders os) where
   read : Header bs × (ordersFrom mostOrders bs 3 ≡ orders os)
-  unfolding planOf
+  unfolding planOf headerFault
   read =
       go (ltb (length bs) 3) refl (eqb (byteAt bs 0) 1) refl (eqb (length bs) (3 + pairAt bs 1)) refl
     where

@@ -12,9 +12,9 @@ use lib.Dec.{T, eqb}
 use lib.ListN.{length, List·getD-eq-default}
 use Rattle.plan.specs.Codes.{rows, countOf, widthOf, known, lengthOf, fieldsFit}
 use Rattle.plan.specs.Stored.{byteAt, pairAt, valueAt, reach, fieldAt, fieldsAt, orderAt, faultAt}
-use Rattle.plan.specs.Judged.{faulty, readAt}
+use Rattle.plan.specs.Judged.{faulty, checkedAt}
 use Rattle.plan.specs.declared.order.Order.{Order}
-use Rattle.plan.specs.declared.stored.Read.{Read}
+use Rattle.plan.specs.declared.stored.Checked.{Checked}
 use Rattle.plan.proofs.Rows.{width-some}
 
 -- past the end there is 0
@@ -117,21 +117,21 @@ order-fields bs at code is-code is = rw (is, is-code)
 
 -- an order that was read, faulty or whole
 module _ (bs : List ℕ) (at : ℕ) where
-  pub read-faulty : {n : ℕ} {r : Read} → r ≡ faulty n → T (not (eqb n 0)) → n ≡ faultAt bs at → r ≡ readAt bs at
-  unfolding readAt
-  read-faulty {n} is some fault = is ∙ rw (← fault, false-of (eqb n 0) some)
+  pub checked-faulty : {n : ℕ} {r : Checked} → r ≡ faulty n → T (not (eqb n 0)) → n ≡ faultAt bs at → r ≡ checkedAt bs at
+  unfolding checkedAt
+  checked-faulty {n} is some fault = is ∙ rw (← fault, false-of (eqb n 0) some)
     where
       false-of : (z : Bool) → T (not z) → z ≡ false
       false-of true t = absurd t
       false-of false t = refl
 
-  pub read-whole : {o : Order} → 0 ≡ faultAt bs at → o ≡ orderAt bs at → record { fault = 0; order = o } ≡ readAt bs at
-  unfolding readAt
-  read-whole none is = rw (← none, is)
+  pub checked-whole : {o : Order} → 0 ≡ faultAt bs at → o ≡ orderAt bs at → record { fault = 0; order = o } ≡ checkedAt bs at
+  unfolding checkedAt
+  checked-whole none is = rw (← none, is)
 
-pub read-fault : (bs : List ℕ) (at : ℕ) {r : Read} → r ≡ readAt bs at → r .fault ≡ faultAt bs at
-unfolding readAt faulty
-read-fault bs at is = rw is (go (eqb (faultAt bs at) 0) refl)
+pub checked-fault : (bs : List ℕ) (at : ℕ) {r : Checked} → r ≡ checkedAt bs at → r .fault ≡ faultAt bs at
+unfolding checkedAt faulty
+checked-fault bs at is = rw is (go (eqb (faultAt bs at) 0) refl)
   where
     go : (z : Bool) → eqb (faultAt bs at) 0 ≡ z
         → cond (eqb (faultAt bs at) 0) (record { fault = 0; order = orderAt bs at }) (faulty (faultAt bs at)) .fault ≡ faultAt bs at

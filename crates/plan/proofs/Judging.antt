@@ -6,7 +6,7 @@ use Prim.Native.Nat.{ℕ, zero, suc, _+_, _-_, _<_, _≤_}
 use native.Mathlib.Omega.{arith}
 use borrow.Author.Tests.{eq-eqb, ne-eqb, lt-ltb, le-ltb}
 use lib.ListN.{length}
-use Rattle.plan.specs.Stored.{Plan, orders, refused, byteAt, pairAt, orderAt, faultAt, before, ordersFrom, mostOrders, planOf}
+use Rattle.plan.specs.Stored.{Plan, orders, refused, byteAt, pairAt, orderAt, faultAt, before, headerFault, ordersFrom, mostOrders, planOf}
 use Rattle.plan.specs.Judged.{judgedOf}
 use Rattle.plan.specs.declared.order.Order.{Order}
 use Rattle.plan.specs.declared.stored.Judged.{Judged}
@@ -71,20 +71,37 @@ module _ (bs : List ℕ) (at count : ℕ) (whole : Judged) (inv : whole ≡ coun
 
 -- the ways through the header
 module _ (bs : List ℕ) where
-  pub plan-short : length bs < 3 → Refused 2 0 ≡ judgedOf (planOf bs)
-  unfolding planOf judgedOf
-  plan-short h = rw (lt-ltb (length bs) 3 h)
+  pub header-short : length bs < 3 → 2 ≡ headerFault bs
+  unfolding headerFault
+  header-short h = rw (lt-ltb (length bs) 3 h)
 
   module _ (long : 3 ≤ length bs) where
-    pub plan-version : (byteAt bs 0 ≡ 1 → ⊥) → Refused 3 0 ≡ judgedOf (planOf bs)
-    unfolding planOf judgedOf
-    plan-version h = rw (le-ltb (length bs) 3 long, ne-eqb (byteAt bs 0) 1 h)
+    pub header-version : (byteAt bs 0 ≡ 1 → ⊥) → 3 ≡ headerFault bs
+    unfolding headerFault
+    header-version h = rw (le-ltb (length bs) 3 long, ne-eqb (byteAt bs 0) 1 h)
 
     module _ (version : byteAt bs 0 ≡ 1) (n : ℕ) (is : n ≡ pairAt bs 1) where
-      pub plan-length : (length bs ≡ 3 + n → ⊥) → Refused 4 0 ≡ judgedOf (planOf bs)
-      unfolding planOf judgedOf
-      plan-length h = rw (le-ltb (length bs) 3 long, eq-eqb (byteAt bs 0) 1 version, ← is, ne-eqb (length bs) (3 + n) h)
+      pub header-length : (length bs ≡ 3 + n → ⊥) → 4 ≡ headerFault bs
+      unfolding headerFault
+      header-length h = rw (le-ltb (length bs) 3 long, eq-eqb (byteAt bs 0) 1 version, ← is, ne-eqb (length bs) (3 + n) h)
 
-      pub plan-orders : (r : Judged) → length bs ≡ 3 + n → r ≡ judgedOf (ordersFrom mostOrders bs 3) → r ≡ judgedOf (planOf bs)
-      unfolding planOf
-      plan-orders r h of = rw (le-ltb (length bs) 3 long, eq-eqb (byteAt bs 0) 1 version, ← is, eq-eqb (length bs) (3 + n) h) of
+      pub header-whole : length bs ≡ 3 + n → 0 ≡ headerFault bs
+      unfolding headerFault
+      header-whole h = rw (le-ltb (length bs) 3 long, eq-eqb (byteAt bs 0) 1 version, ← is, eq-eqb (length bs) (3 + n) h)
+
+-- the plan, by what is wrong before its orders
+module _ (bs : List ℕ) (fault : ℕ) (is : fault ≡ headerFault bs) where
+  pub plan-header : (fault ≡ 0 → ⊥) → planOf bs ≡ refused fault 0
+  unfolding planOf
+  plan-header h = rw (← is, ne-eqb fault 0 h)
+
+  pub plan-orders : fault ≡ 0 → planOf bs ≡ ordersFrom mostOrders bs 3
+  unfolding planOf
+  plan-orders h = rw (← is, eq-eqb fault 0 h)
+
+  pub judged-header : (fault ≡ 0 → ⊥) → Refused fault 0 ≡ judgedOf (planOf bs)
+  unfolding judgedOf
+  judged-header h = rw (plan-header h)
+
+  pub judged-orders : (r : Judged) → fault ≡ 0 → r ≡ judgedOf (ordersFrom mostOrders bs 3) → r ≡ judgedOf (planOf bs)
+  judged-orders r h of = rw (plan-orders h) of

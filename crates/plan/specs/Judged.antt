@@ -6,17 +6,17 @@ use mathlib.Core.List.{List}
 use lib.Dec.{eqb}
 use lib.ListN.{length}
 use Rattle.plan.specs.Stored.{Plan, orders, refused, orderAt, faultAt}
-use Rattle.plan.specs.declared.stored.Read.{Read}
+use Rattle.plan.specs.declared.stored.Checked.{Checked}
 use Rattle.plan.specs.declared.stored.Judged.{Judged}
 use Rattle.plan.specs.declared.stored.Judged.the-variants.{Accepted, Refused}
 
 -- The answer for an order with a fault.
-unfoldable pub faulty : ℕ → Read
+unfoldable pub faulty : ℕ → Checked
 faulty n = record { fault = n; order = record { code = 0; a = 0; b = 0; c = 0; d = 0 } }
 
 -- The order at a place, where nothing is wrong with it.
-unfoldable pub readAt : List ℕ → ℕ → Read
-readAt bs at = cond (eqb (faultAt bs at) 0) (record { fault = 0; order = orderAt bs at }) (faulty (faultAt bs at))
+unfoldable pub checkedAt : List ℕ → ℕ → Checked
+checkedAt bs at = cond (eqb (faultAt bs at) 0) (record { fault = 0; order = orderAt bs at }) (faulty (faultAt bs at))
 
 -- The number of orders of an accepted plan, or the refusal.
 unfoldable pub judgedOf : Plan → Judged

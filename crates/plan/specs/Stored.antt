@@ -76,10 +76,13 @@ ordersFrom (suc n) bs at =
 abbrev pub mostOrders : ℕ
 mostOrders = 64
 
--- 2 fewer than 3 bytes, 3 version not 1, 4 bytes after the third are not as many as the length says; then the orders.
+-- What is wrong before the orders, 0 for nothing: 2 fewer than 3 bytes, 3 version not 1, 4 bytes after the third are not as many as the
+-- length says.
+unfoldable pub headerFault : List ℕ → ℕ
+headerFault bs =
+    cond (ltb (length bs) 3) 2
+    (cond (not (eqb (byteAt bs 0) 1)) 3
+    (cond (not (eqb (length bs) (3 + pairAt bs 1))) 4 0))
+
 unfoldable pub planOf : List ℕ → Plan
-planOf bs =
-    cond (ltb (length bs) 3) (refused 2 0)
-    (cond (not (eqb (byteAt bs 0) 1)) (refused 3 0)
-    (cond (not (eqb (length bs) (3 + pairAt bs 1))) (refused 4 0)
-    (ordersFrom mostOrders bs 3)))
+planOf bs = cond (eqb (headerFault bs) 0) (ordersFrom mostOrders bs 3) (refused (headerFault bs) 0)

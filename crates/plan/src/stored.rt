@@ -8,8 +8,8 @@ ghost use mathlib.Core.Path.{_≡_};
 ghost use Prim.Native.Nat.{_+_, _*_, _≤_, _<_, _^_};
 ghost use lib.ListN.{length};
 ghost use Rattle.plan.specs.Codes.{countOf, widthOf};
-ghost use Rattle.plan.specs.Stored.{byteAt, pairAt, reach, valueAt, fieldAt, fieldsAt, orderAt, faultAt, ordersFrom, mostOrders, planOf};
-ghost use Rattle.plan.specs.Judged.{faulty, readAt, judgedOf};
+ghost use Rattle.plan.specs.Stored.{byteAt, pairAt, reach, valueAt, fieldAt, fieldsAt, orderAt, faultAt, headerFault, ordersFrom, mostOrders, planOf};
+ghost use Rattle.plan.specs.Judged.{faulty, checkedAt, judgedOf};
 
 // The version of the stored form.
 pub const VERSION: u8 = 1;
@@ -98,15 +98,15 @@ pub fn order_at(plan: &[u8], at: usize) -> Order
 }
 
 // An order that was read: what is wrong with it, a number of document 01's refusal table or 0 for nothing; and where nothing is, itself.
-pub struct Read {
+pub struct Checked {
     pub fault: u8,
     pub order: Order,
 }
 
-fn faulty(fault: u8) -> Read
+fn faulty(fault: u8) -> Checked
     ensures { λ r. ⌜ r ≡ faulty fault ⌝ }
 {
-    Read {
+    Checked {
         fault,
         order: Order {
             code: 0,
@@ -173,8 +173,8 @@ fn fields_at(plan: &[u8], at: usize, code: u8) -> Order
 }
 
 // The order at a place, read and judged.
-pub fn read_at(plan: &[u8], at: usize) -> Read
-    ensures { λ r. ⌜ r ≡ readAt (now (plan .entry)) at ⌝ }
+pub fn checked_at(plan: &[u8], at: usize) -> Checked
+    ensures { λ r. ⌜ r ≡ checkedAt (now (plan .entry)) at ⌝ }
 {
     if plan.len() <= at {
         return faulty(ORDER_LENGTH);
@@ -195,7 +195,7 @@ pub fn read_at(plan: &[u8], at: usize) -> Read
     }
     let order = fields_at(plan, at + 2, code);
     if order.fields_fit() {
-        Read { fault: 0, order }
+        Checked { fault: 0, order }
     } else {
         faulty(FIELD_RANGE)
     }
@@ -205,7 +205,7 @@ pub fn read_at(plan: &[u8], at: usize) -> Read
 pub fn fault_at(plan: &[u8], at: usize) -> u8
     ensures { λ r. ⌜ r ≡ faultAt (now (plan .entry)) at ⌝ }
 {
-    read_at(plan, at).fault
+    checked_at(plan, at).fault
 }
 
 // The orders, from the first on.
@@ -234,25 +234,30 @@ fn judge_orders(plan: &[u8]) -> Judged
     Judged::Accepted { count }
 }
 
+// What is wrong with a plan before its orders: a number of document 01's refusal table, 0 for nothing.
+pub fn header_fault(plan: &[u8]) -> u8
+    ensures { λ r. ⌜ r ≡ headerFault (now (plan .entry)) ⌝ }
+{
+    if plan.len() < HEADER {
+        return TOO_SHORT;
+    }
+    if plan[0] != VERSION {
+        return OTHER_VERSION;
+    }
+    if plan.len() != HEADER + pair_at(plan, 1) as usize {
+        return PLAN_LENGTH;
+    }
+    0
+}
+
 // Whether a plan is accepted.
 pub fn judge(plan: &[u8]) -> Judged
     ensures { λ r. ⌜ r ≡ judgedOf (planOf (now (plan .entry))) ⌝ }
 {
-    if plan.len() < HEADER {
+    let fault = header_fault(plan);
+    if fault != 0 {
         return Judged::Refused {
-            number: TOO_SHORT,
-            place: 0,
-        };
-    }
-    if plan[0] != VERSION {
-        return Judged::Refused {
-            number: OTHER_VERSION,
-            place: 0,
-        };
-    }
-    if plan.len() != HEADER + pair_at(plan, 1) as usize {
-        return Judged::Refused {
-            number: PLAN_LENGTH,
+            number: fault,
             place: 0,
         };
     }

@@ -1,47 +1,21 @@
--- `plan::stored::judge` meets its contract: each way through the header is a law of `Judging`.
+-- `plan::stored::judge` meets its contract.
 -- Assumes nothing.
 use borrow.Author.Needs.{needs}
-use Rattle.plan.proofs.Judging.{plan-short, plan-version, plan-length, plan-orders}
+use Rattle.plan.proofs.Judging.{judged-header, judged-orders}
 use Rattle.plan.proofs.stored.judge.Statement.{statement}
 use Rattle.plan.proofs.stored.judge.Tie as tie
 
+header-fault-requires : tie.Need-header-fault-requires
+header-fault-requires c κs = search needs
+
 returns : tie.Need-returns
-returns c = search (needs, plan-short)
-
-shared-slice-read-if2 : tie.Need-shared-slice-read-if2
-shared-slice-read-if2 c = search needs
-
-returns-2 : tie.Need-returns-2
-returns-2 c = search (needs, plan-version)
-
-pair-at-requires : tie.Need-pair-at-requires
-pair-at-requires c κs = search needs
-
-cast-if3 : tie.Need-cast-if3
-cast-if3 c = search needs
-
-add-if3 : tie.Need-add-if3
-add-if3 c = search needs
-
-returns-3 : tie.Need-returns-3
-returns-3 c = search (needs, plan-length)
+returns c = search (needs, judged-header)
 
 judge-orders-requires : tie.Need-judge-orders-requires
 judge-orders-requires c κs = search needs
 
-returns-4 : tie.Need-returns-4
-returns-4 c = search (needs, plan-orders)
+returns-2 : tie.Need-returns-2
+returns-2 c = search (needs, judged-orders)
 
 pub judge-spec : {M : Type 1} → statement M
-judge-spec =
-    tie.close
-    (tie.spec
-    returns
-    shared-slice-read-if2
-    returns-2
-    pair-at-requires
-    cast-if3
-    add-if3
-    returns-3
-    judge-orders-requires
-    returns-4)
+judge-spec = tie.close (tie.spec header-fault-requires returns judge-orders-requires returns-2)

@@ -1,15 +1,15 @@
--- `plan::stored::read_at` meets its contract.
+-- `plan::stored::checked_at` meets its contract.
 -- Assumes nothing.
-use Rattle.plan.proofs.Bytes.{fault-none, fault-empty, fault-past, fault-unknown, fault-length, fault-nothing, fault-field, fields-room, order-fields, read-faulty, read-whole}
+use Rattle.plan.proofs.Bytes.{fault-none, fault-empty, fault-past, fault-unknown, fault-length, fault-nothing, fault-field, fields-room, order-fields, checked-faulty, checked-whole}
 use borrow.Author.Needs.{needs}
-use Rattle.plan.proofs.stored.read_at.Statement.{statement}
-use Rattle.plan.proofs.stored.read_at.Tie as tie
+use Rattle.plan.proofs.stored.checked_at.Statement.{statement}
+use Rattle.plan.proofs.stored.checked_at.Tie as tie
 
 faulty-requires : tie.Need-faulty-requires
 faulty-requires c κs = search needs
 
 returns : tie.Need-returns
-returns c = read-faulty _ _ (c .faulty .ensures) tt (search (needs, fault-none))
+returns c = checked-faulty _ _ (c .faulty .ensures) tt (search (needs, fault-none))
 
 byte-requires : tie.Need-byte-requires
 byte-requires c κs = search needs
@@ -21,7 +21,7 @@ faulty-requires-2 : tie.Need-faulty-requires-2
 faulty-requires-2 c κs = search needs
 
 returns-2 : tie.Need-returns-2
-returns-2 c = read-faulty _ _ (c .faulty2 .ensures) tt (search (needs, fault-empty))
+returns-2 c = checked-faulty _ _ (c .faulty2 .ensures) tt (search (needs, fault-empty))
 
 add-if3 : tie.Need-add-if3
 add-if3 c = search needs
@@ -33,7 +33,7 @@ faulty-requires-3 : tie.Need-faulty-requires-3
 faulty-requires-3 c κs = search needs
 
 returns-3 : tie.Need-returns-3
-returns-3 c = read-faulty _ _ (c .faulty3 .ensures) tt (search (needs, fault-past))
+returns-3 c = checked-faulty _ _ (c .faulty3 .ensures) tt (search (needs, fault-past))
 
 add-byte : tie.Need-add-byte
 add-byte c = search needs
@@ -48,7 +48,7 @@ faulty-requires-4 : tie.Need-faulty-requires-4
 faulty-requires-4 c κs = search needs
 
 returns-4 : tie.Need-returns-4
-returns-4 c = read-faulty _ _ (c .faulty4 .ensures) tt (search (needs, fault-unknown))
+returns-4 c = checked-faulty _ _ (c .faulty4 .ensures) tt (search (needs, fault-unknown))
 
 length-of-requires : tie.Need-length-of-requires
 length-of-requires c κs = search needs
@@ -57,7 +57,7 @@ faulty-requires-5 : tie.Need-faulty-requires-5
 faulty-requires-5 c κs = search needs
 
 returns-5 : tie.Need-returns-5
-returns-5 c = read-faulty _ _ (c .faulty5 .ensures) tt (search (needs, fault-length))
+returns-5 c = checked-faulty _ _ (c .faulty5 .ensures) tt (search (needs, fault-length))
 
 add-fields-at : tie.Need-add-fields-at
 add-fields-at c = search needs
@@ -72,13 +72,13 @@ faulty-requires-6 : tie.Need-faulty-requires-6
 faulty-requires-6 c κs = search needs
 
 returns-6 : tie.Need-returns-6
-returns-6 c = read-whole _ _ (search (needs, fault-nothing, order-fields)) (search (needs, order-fields))
+returns-6 c = checked-whole _ _ (search (needs, fault-nothing, order-fields)) (search (needs, order-fields))
 
 returns-7 : tie.Need-returns-7
-returns-7 c = read-faulty _ _ (c .faulty6 .ensures) tt (search (needs, fault-field, order-fields))
+returns-7 c = checked-faulty _ _ (c .faulty6 .ensures) tt (search (needs, fault-field, order-fields))
 
-pub read-at-spec : {M : Type 1} → statement M
-read-at-spec =
+pub checked-at-spec : {M : Type 1} → statement M
+checked-at-spec =
     tie.close
     (tie.spec
     faulty-requires
