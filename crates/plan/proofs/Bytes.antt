@@ -129,11 +129,16 @@ module _ (bs : List ℕ) (at : ℕ) where
   unfolding checkedAt
   checked-whole none is = rw (← none, is)
 
-pub checked-fault : (bs : List ℕ) (at : ℕ) {r : Checked} → r ≡ checkedAt bs at → r .fault ≡ faultAt bs at
-unfolding checkedAt faulty
-checked-fault bs at is = rw is (go (eqb (faultAt bs at) 0) refl)
-  where
-    go : (z : Bool) → eqb (faultAt bs at) 0 ≡ z
-        → cond (eqb (faultAt bs at) 0) (record { fault = 0; order = orderAt bs at }) (faulty (faultAt bs at)) .fault ≡ faultAt bs at
-    go true e = rw e (sym (eqb-true (faultAt bs at) 0 e))
-    go false e = rw e
+module _ (bs : List ℕ) (at : ℕ) {r : Checked} (is : r ≡ checkedAt bs at) where
+  pub checked-fault : r .fault ≡ faultAt bs at
+  unfolding checkedAt faulty
+  checked-fault = rw is (go (eqb (faultAt bs at) 0) refl)
+    where
+      go : (z : Bool) → eqb (faultAt bs at) 0 ≡ z
+          → cond (eqb (faultAt bs at) 0) (record { fault = 0; order = orderAt bs at }) (faulty (faultAt bs at)) .fault ≡ faultAt bs at
+      go true e = rw e (sym (eqb-true (faultAt bs at) 0 e))
+      go false e = rw e
+
+  pub checked-order : r .fault ≡ 0 → r .order ≡ orderAt bs at
+  unfolding checkedAt
+  checked-order none = rw (is, eq-eqb (faultAt bs at) 0 (sym checked-fault ∙ none))

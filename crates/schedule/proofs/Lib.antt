@@ -6,7 +6,6 @@ pub mod Plans
 pub mod Advance
 pub mod Laying
 pub mod OrderLaid
-pub mod Walking
-pub mod Counting
-pub mod Filling
+pub mod OnePass
+pub mod Copying
 pub mod Translating

@@ -3,57 +3,74 @@ use crate::Translated;
 use crate::clock::Clock;
 use crate::put::put_order;
 use head::state::Head;
-use plan::encoding::word_count;
 use plan::stored::HEADER;
-use plan::stored::Judged;
+use plan::stored::MOST_ORDERS;
+use plan::stored::TOO_MANY;
 use plan::stored::byte_at;
-use plan::stored::judge;
-use plan::stored::order_at;
+use plan::stored::checked_at;
+use plan::stored::header_fault;
 ghost use mathlib.Core.Path.{_≡_};
 ghost use Prim.Native.Nat.{_≤_};
 ghost use lib.ListN.{length};
-ghost use lib.Seq.{sets};
-ghost use Rattle.plan.specs.Stored.{orders, planOf, ordersIn};
+ghost use lib.Seq.{paste};
+ghost use Rattle.plan.specs.Stored.{ordersFrom, mostOrders, planOf};
 ghost use Rattle.schedule.specs.Clock.{Near};
-ghost use Rattle.schedule.specs.Filled.{timedBy, wordTotal, refusalOf};
+ghost use Rattle.schedule.specs.Filled.{laidOf, wordsLaid, ticksLaid, WhenDone};
 ghost use Rattle.schedule.specs.Translate.{fit, translateOf, scheduleOf, filled, tickList, wordList};
 
-// How many words the orders of an accepted plan have.
-fn count_words(plan: &[u8], count: usize) -> usize
-    requires { ⌜ planOf (now plan) ≡ orders (ordersIn (planOf (now plan))) ⌝ ∗ ⌜ length (ordersIn (planOf (now plan))) ≡ count ⌝ }
-    ensures { λ r. ⌜ r ≡ wordTotal (ordersIn (planOf (now (plan .entry)))) ⌝ }
-{
-    let mut at: usize = HEADER;
-    let mut total: usize = 0;
-    let mut k: usize = 0;
-    while k < count {
-        total = total + word_count(byte_at(plan, at + 1));
-        at = at + 1 + byte_at(plan, at) as usize;
-        k = k + 1;
-    }
-    total
-}
+// The most words that a plan has: four for each order.
+pub const MOST_WORDS: usize = 256;
 
-// The words and ticks of an accepted plan; answers its end.
-fn fill(words: &mut [u16], ticks: &mut [u32], plan: &[u8], count: usize, start: Clock) -> u32
-    requires { ⌜ planOf (now plan) ≡ orders (ordersIn (planOf (now plan))) ⌝ ∗ ⌜ length (ordersIn (planOf (now plan))) ≡ count ⌝ }
-    requires { ⌜ Near 0 start ⌝ ∗ ⌜ wordTotal (ordersIn (planOf (now plan))) ≤ length (now words) ⌝ ∗ ⌜ wordTotal (ordersIn (planOf (now plan))) ≤ length (now ticks) ⌝ }
-    ensures { λ r. ⌜ r ≡ timedBy start (ordersIn (planOf (now (plan .entry)))) .end ⌝ }
-    ensures { λ r. ⌜ now (words .exit) ≡ sets (now (words .entry)) 0 (wordList (timedBy start (ordersIn (planOf (now (plan .entry)))))) ⌝ }
-    ensures { λ r. ⌜ now (ticks .exit) ≡ sets (now (ticks .entry)) 0 (tickList (timedBy start (ordersIn (planOf (now (plan .entry)))))) ⌝ }
+// The orders of a plan, judged one by one; their words and ticks from the first place on, as far as they go.
+fn lay(words: &mut [u16], ticks: &mut [u32], plan: &[u8], start: Clock) -> Translated
+    requires { ⌜ 256 ≤ length (now words) ⌝ ∗ ⌜ 256 ≤ length (now ticks) ⌝ ∗ ⌜ Near 0 start ⌝ }
+    ensures { λ r. ⌜ r ≡ laidOf (ordersFrom mostOrders (now (plan .entry)) 3) start 0 ⌝ }
+    ensures { λ r. ⌜ WhenDone r (now (words .exit)) (wordsLaid (ordersFrom mostOrders (now (plan .entry)) 3) start 0 (now (words .entry))) ⌝ }
+    ensures { λ r. ⌜ WhenDone r (now (ticks .exit)) (ticksLaid (ordersFrom mostOrders (now (plan .entry)) 3) start 0 (now (ticks .entry))) ⌝ }
 {
     let mut at: usize = HEADER;
     let mut next: usize = 0;
     let mut clock = start;
     let mut k: usize = 0;
-    while k < count {
-        let placed = put_order(words, ticks, next, clock, order_at(plan, at));
+    while at < plan.len() {
+        if MOST_ORDERS <= k {
+            return Translated::Refused {
+                number: TOO_MANY,
+                place: at,
+            };
+        }
+        let checked = checked_at(plan, at);
+        let fault = checked.fault;
+        if fault != 0 {
+            return Translated::Refused {
+                number: fault,
+                place: at,
+            };
+        }
+        let placed = put_order(words, ticks, next, clock, checked.order);
         clock = placed.clock;
         next = placed.next;
         at = at + 1 + byte_at(plan, at) as usize;
         k = k + 1;
     }
-    clock.now
+    Translated::Done {
+        count: next,
+        end: clock.now,
+    }
+}
+
+// The first words and ticks into lent lists.
+fn copy_out(words: &mut [u16], ticks: &mut [u32], sent: &[u16], times: &[u32], count: usize)
+    requires { ⌜ count ≤ length (now words) ⌝ ∗ ⌜ count ≤ length (now ticks) ⌝ ∗ ⌜ count ≤ length (now sent) ⌝ ∗ ⌜ count ≤ length (now times) ⌝ }
+    ensures { λ _. ⌜ now (words .exit) ≡ paste (now (words .entry)) 0 (now (sent .entry)) count ⌝ }
+    ensures { λ _. ⌜ now (ticks .exit) ≡ paste (now (ticks .entry)) 0 (now (times .entry)) count ⌝ }
+{
+    let mut i: usize = 0;
+    while i < count {
+        words[i] = sent[i];
+        ticks[i] = times[i];
+        i = i + 1;
+    }
 }
 
 // Whether a plan can be translated for a head: in range, idle, and nothing moving.
@@ -61,16 +78,6 @@ pub fn is_fit(head: Head) -> bool
     ensures { λ r. ⌜ r ≡ fit head ⌝ }
 {
     head.in_range() & (head.work.busy == 0) & ((head.motion.mirror == 0) & (head.motion.cover == 0))
-}
-
-// The answer for a plan that is refused.
-fn refused(judged: Judged) -> Translated
-    ensures { λ r. ⌜ r ≡ refusalOf judged ⌝ }
-{
-    match judged {
-        Judged::Refused { number, place } => Translated::Refused { number, place },
-        Judged::Accepted { count } => Translated::Short { count },
-    }
 }
 
 // Fills the first places of words and ticks with the plan's, or refuses and writes to neither.
@@ -85,17 +92,25 @@ pub fn translate(head: Head, plan: &[u8], words: &mut [u16], ticks: &mut [u32]) 
             place: 0,
         };
     }
-    let judged = judge(plan);
-    let Judged::Accepted { count } = judged else {
-        return refused(judged);
+    let fault = header_fault(plan);
+    if fault != 0 {
+        return Translated::Refused {
+            number: fault,
+            place: 0,
+        };
+    }
+    let mut own_words = [0u16; MOST_WORDS];
+    let mut own_ticks = [0u32; MOST_WORDS];
+    let laid = lay(&mut own_words, &mut own_ticks, plan, Clock::of(head));
+    let Translated::Done { count, end } = laid else {
+        return laid;
     };
-    let total = count_words(plan, count);
-    if words.len() < total {
-        return Translated::Short { count: total };
+    if words.len() < count {
+        return Translated::Short { count };
     }
-    if ticks.len() < total {
-        return Translated::Short { count: total };
+    if ticks.len() < count {
+        return Translated::Short { count };
     }
-    let end = fill(words, ticks, plan, count, Clock::of(head));
-    Translated::Done { count: total, end }
+    copy_out(words, ticks, &own_words, &own_ticks, count);
+    Translated::Done { count, end }
 }

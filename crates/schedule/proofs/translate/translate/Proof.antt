@@ -1,8 +1,10 @@
--- `schedule::translate::translate` meets its contract: each way through the code is a law of `Translating`.
+-- `schedule::translate::translate` meets its contract.
 -- Assumes nothing.
+use mathlib.Core.Logic.{inl, inr}
+use mathlib.Core.Path.{refl}
 use native.Mathlib.Omega.{arith}
 use denote.Ref.{now}
-use Rattle.schedule.proofs.Translating.{way-unfit, way-near, way-refused, way-plan, way-count, way-short-words, way-short-ticks, way-done}
+use Rattle.schedule.proofs.Translating.{way-unfit, way-near, way-header, way-refused, way-few, way-short-words, way-short-ticks, way-done}
 use borrow.Author.Needs.{needs}
 use Rattle.schedule.proofs.translate.translate.Statement.{statement}
 use Rattle.schedule.proofs.translate.translate.Tie as tie
@@ -11,79 +13,78 @@ is-fit-requires : tie.Need-is-fit-requires
 is-fit-requires c κs = search needs
 
 returns : tie.Need-returns
-returns c =
-    let a = c .before .before .before .before .before .args in
-    way-unfit (a .head) (now (a .plan)) (now (a .words)) (now (a .ticks)) (c .before .is-fit .result) (c .before .is-fit .ensures) (c .if1 .taken)
+returns c = way-unfit _ _ _ _ (c .before .is-fit .ensures) (c .if1 .taken)
 
-judge-requires : tie.Need-judge-requires
-judge-requires c κs = search needs
-
-enum-known-judged : tie.Need-enum-known-judged
-enum-known-judged c = search needs
-
-enum-told : tie.Need-enum-told
-enum-told c = search needs
-
-refused-requires : tie.Need-refused-requires
-refused-requires c κs = search needs
+header-fault-requires : tie.Need-header-fault-requires
+header-fault-requires c κs = search needs
 
 returns-2 : tie.Need-returns-2
-returns-2 c =
-    let a = c .before .before .before .before .before .before .before .before .before .args in
-    let fit = c .before .before .before .before .before .is-fit in
-    let judge = c .before .before .before .judge in
-    let told = c .before .enum-told .given in
-    way-refused (a .head) (now (a .plan)) (now (a .words)) (now (a .ticks)) (fit .result) (fit .ensures) (c .before .before .before .before .if1 .left) (judge .result) (judge .ensures) (told .0 .0) (told .0 .1 .0) (told .1) (c .refused .result) (c .refused .ensures)
+returns-2 c = way-header _ _ _ _ (c .before .before .before .is-fit .ensures) (c .before .before .if1 .left) (c .before .header-fault .ensures) (c .if2 .taken)
 
-count-words-requires : tie.Need-count-words-requires
-count-words-requires c κs =
-    let told = c in
-    let a = told .before .before .before .before .before .before .before .before .before .args in
-    let fit = told .before .before .before .before .before .is-fit in
-    let judge = told .before .before .before .judge in
-    let judged = told .before .judged .given in
-    (way-plan (a .head) (now (a .plan)) (now (a .words)) (now (a .ticks)) (fit .result) (fit .ensures) (told .before .before .before .before .if1 .left) (judge .result) (judge .ensures) (judged .0 .0) (judged .1), way-count (a .head) (now (a .plan)) (now (a .words)) (now (a .ticks)) (fit .result) (fit .ensures) (told .before .before .before .before .if1 .left) (judge .result) (judge .ensures) (judged .0 .0) (judged .1))
+slice-aggregate-lay : tie.Need-slice-aggregate-lay
+slice-aggregate-lay c = search needs
 
-returns-3 : tie.Need-returns-3
-returns-3 c =
-    let told = c .before .before in
-    let a = told .before .before .before .before .before .before .before .before .before .args in
-    let fit = told .before .before .before .before .before .is-fit in
-    let judge = told .before .before .before .judge in
-    let judged = told .before .judged .given in
-    let count = c .before .count-words in
-    way-short-words (a .head) (now (a .plan)) (now (a .words)) (now (a .ticks)) (fit .result) (fit .ensures) (told .before .before .before .before .if1 .left) (judge .result) (judge .ensures) (judged .0 .0) (judged .1) (count .result) (count .ensures) (c .if2 .taken)
-
-returns-4 : tie.Need-returns-4
-returns-4 c =
-    let told = c .before .before .before in
-    let a = told .before .before .before .before .before .before .before .before .before .args in
-    let fit = told .before .before .before .before .before .is-fit in
-    let judge = told .before .before .before .judge in
-    let judged = told .before .judged .given in
-    let count = c .before .before .count-words in
-    way-short-ticks (a .head) (now (a .plan)) (now (a .words)) (now (a .ticks)) (fit .result) (fit .ensures) (told .before .before .before .before .if1 .left) (judge .result) (judge .ensures) (judged .0 .0) (judged .1) (count .result) (count .ensures) (c .before .if2 .left) (c .if3 .taken)
+slice-aggregate-lay-2 : tie.Need-slice-aggregate-lay-2
+slice-aggregate-lay-2 c = search needs
 
 of-requires : tie.Need-of-requires
 of-requires c κs = search needs
 
-fill-requires : tie.Need-fill-requires
-fill-requires c κs =
-    let told = c .before .before .before .before .before .before in
-    let a = told .before .before .before .before .before .before .before .before .before .args in
-    let fit = told .before .before .before .before .before .is-fit in
-    let judge = told .before .before .before .judge in
-    let judged = told .before .judged .given in
-    let count = c .before .before .before .before .before .count-words in (
-      way-plan (a .head) (now (a .plan)) (now (a .words)) (now (a .ticks)) (fit .result) (fit .ensures) (told .before .before .before .before .if1 .left) (judge .result) (judge .ensures) (judged .0 .0) (judged .1),
-      (
-        way-count (a .head) (now (a .plan)) (now (a .words)) (now (a .ticks)) (fit .result) (fit .ensures) (told .before .before .before .before .if1 .left) (judge .result) (judge .ensures) (judged .0 .0) (judged .1),
-        (
-          rw (c .of .ensures) (way-near (a .head) (now (a .plan)) (now (a .words)) (now (a .ticks)) (fit .result) (fit .ensures) (told .before .before .before .before .if1 .left) (judge .result) (judge .ensures)),
-          (omega (arith, count .ensures, c .before .before .before .before .if2 .left), omega (arith, count .ensures, c .before .before .before .if3 .left)),
-        ),
-      ),
-    )
+lay-requires : tie.Need-lay-requires
+lay-requires c κs =
+    let start = c .before .before .before .before .before .before .before .before .before .before in
+    (omega arith, (omega arith, rw (c .of .ensures) (way-near (start .args .head) (now (start .args .plan)) (now (start .args .words)) (now (start .args .ticks)) (c .before .before .before .before .before .before .is-fit .ensures) (c .before .before .before .before .before .if1 .left))))
+
+enum-known-laid : tie.Need-enum-known-laid
+enum-known-laid c = search needs
+
+returns-3 : tie.Need-returns-3
+returns-3 c =
+    let fit = c .before .before .before .before .before .before .before .before .before .before .is-fit .ensures in
+    let passed = c .before .before .before .before .before .before .before .before .before .if1 .left in
+    let header = c .before .before .before .before .before .before .before .before .header-fault .ensures in
+    let whole = c .before .before .before .before .before .before .before .if2 .left in
+    let lay = c .before .before .before .lay in
+    let laid = rw (c .before .before .before .before .of .ensures) at (lay .ensures) in
+    way-refused _ _ _ _ fit passed header whole (laid .0) (λ n e is. elim (rw is at (c .match .keys2)) [ inl a ↦ omega arith | inr a ↦ omega arith ])
+
+returns-4 : tie.Need-returns-4
+returns-4 c =
+    let fit = c .before .before .before .before .before .before .before .before .before .before .before .before .before .is-fit .ensures in
+    let passed = c .before .before .before .before .before .before .before .before .before .before .before .before .if1 .left in
+    let header = c .before .before .before .before .before .before .before .before .before .before .before .header-fault .ensures in
+    let whole = c .before .before .before .before .before .before .before .before .before .before .if2 .left in
+    let lay = c .before .before .before .before .before .before .lay in
+    let laid = rw (c .before .before .before .before .before .before .before .of .ensures) at (lay .ensures) in
+    way-short-words _ _ _ _ fit passed header whole (laid .0) (c .before .before .laid .given .1) (c .if3 .taken)
+
+returns-5 : tie.Need-returns-5
+returns-5 c =
+    let fit = c .before .before .before .before .before .before .before .before .before .before .before .before .before .before .is-fit .ensures in
+    let passed = c .before .before .before .before .before .before .before .before .before .before .before .before .before .if1 .left in
+    let header = c .before .before .before .before .before .before .before .before .before .before .before .before .header-fault .ensures in
+    let whole = c .before .before .before .before .before .before .before .before .before .before .before .if2 .left in
+    let lay = c .before .before .before .before .before .before .before .lay in
+    let laid = rw (c .before .before .before .before .before .before .before .before .of .ensures) at (lay .ensures) in
+    way-short-ticks _ _ _ _ fit passed header whole (laid .0) (c .before .before .before .laid .given .1) (c .before .if3 .left) (c .if4 .taken)
+
+slice-aggregate-copy-out : tie.Need-slice-aggregate-copy-out
+slice-aggregate-copy-out c = search needs
+
+slice-aggregate-copy-out-2 : tie.Need-slice-aggregate-copy-out-2
+slice-aggregate-copy-out-2 c = search needs
+
+copy-out-requires : tie.Need-copy-out-requires
+copy-out-requires c κs =
+    let fit = c .before .before .before .before .before .before .before .before .before .before .before .before .before .before .before .before .before .before .is-fit .ensures in
+    let passed = c .before .before .before .before .before .before .before .before .before .before .before .before .before .before .before .before .before .if1 .left in
+    let header = c .before .before .before .before .before .before .before .before .before .before .before .before .before .before .before .before .header-fault .ensures in
+    let whole = c .before .before .before .before .before .before .before .before .before .before .before .before .before .before .before .if2 .left in
+    let lay = c .before .before .before .before .before .before .before .before .before .before .before .lay in
+    let laid = rw (c .before .before .before .before .before .before .before .before .before .before .before .before .of .ensures) at (lay .ensures) in
+    let a = c .before .before .before .before .before .before .before .before .before .before .before .before .before .before .before .before .before .before .before .before .before .before .args in
+    let few = way-few (a .head) (now (a .plan)) (now (a .words)) (now (a .ticks)) fit passed header whole (laid .0) (c .before .before .before .before .before .before .before .laid .given .1) in
+    (omega arith, (omega arith, (omega arith, omega arith)))
 
 same-length : tie.Need-same-length
 same-length c = search needs
@@ -91,17 +92,17 @@ same-length c = search needs
 same-length-2 : tie.Need-same-length-2
 same-length-2 c = search needs
 
-returns-5 : tie.Need-returns-5
-returns-5 c =
-    let told = c .before .before .before .before .before .before .before .before .before .before .before in
-    let a = told .before .before .before .before .before .before .before .before .before .args in
-    let fit = told .before .before .before .before .before .is-fit in
-    let judge = told .before .before .before .judge in
-    let judged = told .before .judged .given in
-    let count = c .before .before .before .before .before .before .before .before .before .before .count-words in
-    let fill = c .before .before .before .before .fill in
-    let e = rw (c .before .before .before .before .before .of .ensures) at (fill .ensures) in
-    way-done (a .head) (now (a .plan)) (now (a .words)) (now (a .ticks)) (fit .result) (fit .ensures) (told .before .before .before .before .if1 .left) (judge .result) (judge .ensures) (judged .0 .0) (judged .1) (count .result) (count .ensures) (c .before .before .before .before .before .before .before .before .before .if2 .left) (c .before .before .before .before .before .before .before .before .if3 .left) (fill .result) (fill .last .0) (fill .last .1 .0) (e .0) (e .1 .0) (e .1 .1)
+returns-6 : tie.Need-returns-6
+returns-6 c =
+    let fit = c .before .before .before .before .before .before .before .before .before .before .before .before .before .before .before .before .before .before .before .before .before .before .before .is-fit .ensures in
+    let passed = c .before .before .before .before .before .before .before .before .before .before .before .before .before .before .before .before .before .before .before .before .before .before .if1 .left in
+    let header = c .before .before .before .before .before .before .before .before .before .before .before .before .before .before .before .before .before .before .before .before .before .header-fault .ensures in
+    let whole = c .before .before .before .before .before .before .before .before .before .before .before .before .before .before .before .before .before .before .before .before .if2 .left in
+    let lay = c .before .before .before .before .before .before .before .before .before .before .before .before .before .before .before .before .lay in
+    let laid = rw (c .before .before .before .before .before .before .before .before .before .before .before .before .before .before .before .before .before .of .ensures) at (lay .ensures) in
+    let done = c .before .before .before .before .before .before .before .before .before .before .before .before .laid .given .1 in
+    let own = rw done at (laid .1) in
+    way-done _ _ _ _ fit passed header whole (laid .0) done (c .before .before .before .before .before .before .before .before .before .before .if3 .left) (c .before .before .before .before .before .before .before .before .before .if4 .left) _ _ _ _ refl refl (own .0) (own .1) (c .before .before .before .before .copy-out .ensures .0) (c .before .before .before .before .copy-out .ensures .1)
 
 pub translate-spec : {M : Type 1} → statement M
 translate-spec =
@@ -109,16 +110,19 @@ translate-spec =
     (tie.spec
     is-fit-requires
     returns
-    judge-requires
-    enum-known-judged
-    enum-told
-    refused-requires
+    header-fault-requires
     returns-2
-    count-words-requires
+    slice-aggregate-lay
+    slice-aggregate-lay-2
+    of-requires
+    lay-requires
+    enum-known-laid
     returns-3
     returns-4
-    of-requires
-    fill-requires
+    returns-5
+    slice-aggregate-copy-out
+    slice-aggregate-copy-out-2
+    copy-out-requires
     same-length
     same-length-2
-    returns-5)
+    returns-6)
