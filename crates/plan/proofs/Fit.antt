@@ -45,7 +45,7 @@ four true false c d = refl
 four false b c d = refl
 
 -- how `match` says that a code is none of those up to n
-abbrev Apart : ℕ → ℕ → Type 0
+abbrev pub Apart : ℕ → ℕ → Type 0
 Apart c zero = Unit {0}
 Apart c (suc n) = Apart c n × (c ≡ suc n → ⊥)
 
@@ -150,7 +150,3 @@ module _ (o : Order) (fits : fieldsFit o ≡ true) where
   unfolding fieldsFit
   fit-bounds =
       within-bounds (rowOf (o .code) .fields) (fieldsOf o) (and-left (within (rowOf (o .code) .fields) (fieldsOf o)) (related o) fits)
-
-  pub fit-related : related o ≡ true
-  unfolding fieldsFit
-  fit-related = and-right (within (rowOf (o .code) .fields) (fieldsOf o)) (related o) fits

@@ -9,10 +9,9 @@ use borrow.Author.Tests.{eqb-true}
 use lib.Dec.{lit≤}
 use lib.ListN.{length, length-append}
 use Rattle.plan.specs.Codes as code
-use Rattle.plan.specs.Codes.{is, known, fit}
+use Rattle.plan.specs.Codes.{is, known}
 use Rattle.plan.specs.Stored.{orders, planOf}
 use Rattle.plan.specs.Words.{Item, send, pause, wordsOf, itemsOf, itemsOfAll}
-use Rattle.plan.specs.Encoding.{wordsIfFit}
 use Rattle.plan.specs.declared.order.Order.{Order}
 use Rattle.plan.proofs.Fit.{by-order, fit-known}
 use Rattle.plan.proofs.Accepted.{AllFit, accepted-fit, accepted-few}
@@ -47,14 +46,6 @@ words-few o k =
     (lit≤ tt) (lit≤ tt) (lit≤ tt) (lit≤ tt) (lit≤ tt) (lit≤ tt) (lit≤ tt) (lit≤ tt) (lit≤ tt)
     (lit≤ tt) (lit≤ tt) (lit≤ tt) (lit≤ tt) (lit≤ tt) (lit≤ tt) (lit≤ tt) (lit≤ tt)
     k
-
-pub words-if-fit-few : (o : Order) → length (wordsIfFit o) ≤ 4
-unfolding wordsIfFit
-words-if-fit-few o = go (fit o) refl
-  where
-    go : (z : Bool) → fit o ≡ z → length (cond (fit o) (wordsOf o) []) ≤ 4
-    go true e = rw e (words-few o (fit-known o e))
-    go false e = rw e (omega arith)
 
 pub words-in-few : (os : List Order) → AllFit os → length (wordsIn (itemsOfAll os)) ≤ 4 * length os
 unfolding itemsOfAll

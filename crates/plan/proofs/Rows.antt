@@ -1,31 +1,17 @@
 -- What a code has, by its place: the number of its fields and their width.
 -- Assumes nothing.
 use mathlib.Core.Path.{_≡_, refl}
-use mathlib.Core.Bool.{Bool}
 use mathlib.Core.List.{List, []}
 use Prim.Native.Nat.{ℕ, _+_, _-_, _*_, _^_, _<_, _≤_, _/_, _%_}
 use native.Mathlib.Decide.{decLe}
-use native.Mathlib.Nat.{le-of-lt, mul-le-mul}
 use native.Mathlib.Omega.{arith}
 use borrow.Author.Tests.{le-leb, lt-leb}
-use lib.Arith.{digits-div, digits-mod}
 use lib.Dec.{T}
 use lib.ListN.{length, getD, List·getD-eq-default}
 use mir.Syntax.{w64}
 use mir.Val.{Fits}
-use mir.Facts.{fits-le, fits-lit}
 use Rattle.words.proofs.Tables.{agree, agree-at}
 use Rattle.plan.specs.Codes.{Row, b, rows, rowOf, placeOf, digitAt, countOf, widthOf, lengthOf}
-
--- a table of eighteen rows of four holds the function's values
-abbrev pub tabulates4 : List (List ℕ) → (ℕ → ℕ → ℕ) → Bool
-tabulates4 t g = agree (λ j. getD (getD t (j / 4) []) (j % 4) 0) (λ j. g (j / 4) (j % 4)) 72
-
-pub tabulates4-at : (t : List (List ℕ)) (g : ℕ → ℕ → ℕ) → T (tabulates4 t g) → (k i : ℕ) → k < 18 → i < 4
-    → getD (getD t k []) i 0 ≡ g k i
-tabulates4-at t g ok k i hk hi =
-    rw (digits-div k {m = 4} hi, digits-mod k {m = 4} hi)
-    at (agree-at (λ j. getD (getD t (j / 4) []) (j % 4) 0) (λ j. g (j / 4) (j % 4)) 72 ok (k * 4 + i) (omega arith))
 
 -- the two ways to a code's place
 pub place-code : (code : ℕ) → code ≤ 17 → code ≡ placeOf code
@@ -72,9 +58,6 @@ width-by n code ok = row-by n (λ r. r .width) code ok
 module _ (code p : ℕ) (is : p ≡ placeOf code) where
   pub place-index : p < 18
   place-index = omega (arith, place-below code)
-
-  pub place-fits : (size : ℕ) → size ≤ 8 → Fits w64 (p * size)
-  place-fits size h = fits-le (mul-le-mul (le-of-lt place-index) h) (fits-lit tt)
 
 -- a field has a byte at least
 pub width-some : (code : ℕ) → 1 ≤ widthOf code

@@ -1,15 +1,13 @@
 // The words of an order (document 01, "Plans").
 use crate::codes;
-use crate::codes::place_of;
 use crate::order::Order;
-use words::Encoded;
-use words::encode;
-use words::kinds;
 ghost use mathlib.Core.Path.{_≡_};
-ghost use Prim.Native.Nat.{_<_};
-ghost use lib.ListN.{length, getD};
+ghost use mathlib.Core.List.{[], _∷_};
+ghost use Prim.Native.Nat.{_+_, _%_};
+ghost use Rattle.words.specs.Fields.{coverBits};
+ghost use Rattle.plan.specs.Codes.{window, mirror};
 ghost use Rattle.plan.specs.Words.{sineRegister, switchData};
-ghost use Rattle.plan.specs.Encoding.{kindsOf, actBits, bitsOf, four, wordIfAllowed, wordsIfFit, listed};
+ghost use Rattle.plan.specs.Encoding.{cut, wordsCut, listed};
 
 // The words of an order, at most four; places past the count hold 0.
 pub struct Words {
@@ -17,52 +15,58 @@ pub struct Words {
     pub list: [u16; 4],
 }
 
-// How many words each code has. In these tables row 0 is no code.
-const COUNT: [usize; 18] = [
-    0, // none
-    2, // VDETCOM
-    2, // VDETADJ
-    2, // IR delay, expo
-    2, // CCD delay, expo
-    1, // window mode
-    4, // window
-    1, // detector
-    1, // CCD lamp
-    1, // IR lamp
-    1, // shutter
-    1, // annealing
-    4, // mirror
-    1, // motor
-    1, // cover
-    1, // expose
-    1, // housekeeping
-    0, // wait
-];
+// The kinds, each by its word with data 0 (document 01, "The words").
+const START: u16 = 0x8000;
 
-// The kinds of the words of each code.
-const KINDS: [[u8; 4]; 18] = [
-    [kinds::NOP, kinds::NOP, kinds::NOP, kinds::NOP],
-    [kinds::VDETCOM_M, kinds::VDETCOM_L, kinds::NOP, kinds::NOP],
-    [kinds::VDETADJ_M, kinds::VDETADJ_L, kinds::NOP, kinds::NOP],
-    [kinds::IR_DELAY, kinds::IR_EXPO, kinds::NOP, kinds::NOP],
-    [kinds::CCD_DELAY, kinds::CCD_EXPO, kinds::NOP, kinds::NOP],
-    [kinds::IR_WIN_MODE, kinds::NOP, kinds::NOP, kinds::NOP],
-    [kinds::WIN_X1, kinds::WIN_Y1, kinds::WIN_X2, kinds::WIN_Y2],
-    [kinds::IR_DETECTOR, kinds::NOP, kinds::NOP, kinds::NOP],
-    [kinds::CCD_LAMP, kinds::NOP, kinds::NOP, kinds::NOP],
-    [kinds::IR_LAMP, kinds::NOP, kinds::NOP, kinds::NOP],
-    [kinds::SHUTTER, kinds::NOP, kinds::NOP, kinds::NOP],
-    [kinds::ANNEALING, kinds::NOP, kinds::NOP, kinds::NOP],
-    [kinds::SIN_M, kinds::SIN_L, kinds::COS_M, kinds::COS_L],
-    [kinds::SWITCH, kinds::NOP, kinds::NOP, kinds::NOP],
-    [kinds::COVER, kinds::NOP, kinds::NOP, kinds::NOP],
-    [kinds::START, kinds::NOP, kinds::NOP, kinds::NOP],
-    [kinds::HK, kinds::NOP, kinds::NOP, kinds::NOP],
-    [kinds::NOP, kinds::NOP, kinds::NOP, kinds::NOP],
-];
+const HK: u16 = 0x4000;
 
-// Data have ten bits.
-const MOST_DATA: u32 = 1023;
+const IR_DETECTOR: u16 = 0xD800;
+
+const IR_WIN_MODE: u16 = 0x9000;
+
+const VDETCOM_M: u16 = 0xD000;
+
+const VDETCOM_L: u16 = 0x3000;
+
+const VDETADJ_M: u16 = 0xB000;
+
+const VDETADJ_L: u16 = 0x7000;
+
+const IR_DELAY: u16 = 0xF000;
+
+const IR_EXPO: u16 = 0x0800;
+
+const WIN_X1: u16 = 0x2800;
+
+const WIN_Y1: u16 = 0xA800;
+
+const WIN_X2: u16 = 0x6800;
+
+const WIN_Y2: u16 = 0xE800;
+
+const CCD_DELAY: u16 = 0x1800;
+
+const CCD_EXPO: u16 = 0x9800;
+
+const CCD_LAMP: u16 = 0x5800;
+
+const IR_LAMP: u16 = 0x8800;
+
+const SHUTTER: u16 = 0xC800;
+
+const ANNEALING: u16 = 0x4800;
+
+const SIN_M: u16 = 0x2000;
+
+const SIN_L: u16 = 0xA000;
+
+const COS_M: u16 = 0x6000;
+
+const COS_L: u16 = 0xE000;
+
+const SWITCH: u16 = 0x5000;
+
+const COVER: u16 = 0x1000;
 
 // The sine as the head's register holds it: the sign in bit 12 above the magnitude. Sine 0 is plus; a
 // negative sine is stored as 65536 less its magnitude.
@@ -76,37 +80,6 @@ pub fn sine_register(sine: u16) -> u16
     }
 }
 
-// The word of a kind and its data; 0 where the kind does not allow them.
-fn word_of(kind: u8, bits: u32) -> u16
-    ensures { λ r. ⌜ r ≡ wordIfAllowed kind bits ⌝ }
-{
-    if MOST_DATA < bits {
-        return 0;
-    }
-    let encoded = encode(kind, bits as u16);
-    match encoded {
-        Encoded::Made(word) => word,
-        Encoded::Refused => 0,
-    }
-}
-
-// The ith word of a code, with its data.
-fn word_at(code: u8, i: usize, bits: u32) -> u16
-    requires { ⌜ i < 4 ⌝ }
-    ensures { λ r. ⌜ r ≡ wordIfAllowed (getD (kindsOf code) i 0) bits ⌝ }
-{
-    let row = place_of(code);
-    let kind = KINDS[row][i];
-    word_of(kind, bits)
-}
-
-// How many words a code has.
-pub fn word_count(code: u8) -> usize
-    ensures { λ r. ⌜ r ≡ length (kindsOf code) ⌝ }
-{
-    COUNT[place_of(code)]
-}
-
 // SWITCH 0 is on.
 fn switch_bits(motor: u32) -> u32
     ensures { λ r. ⌜ r ≡ switchData motor ⌝ }
@@ -114,82 +87,105 @@ fn switch_bits(motor: u32) -> u32
     if motor == 0 { 1 } else { 0 }
 }
 
+// The word of a kind and its data, cut to sixteen bits.
+fn word(kind: u16, bits: u32) -> u16
+    ensures { λ r. ⌜ r ≡ (kind + bits) % 65536 ⌝ }
+{
+    ((kind as u64 + bits as u64) % 65536) as u16
+}
+
+// A word alone.
+fn one(kind: u16, bits: u32) -> Words
+    ensures { λ r. ⌜ r ≡ listed (cut ((kind + bits) ∷ [])) ⌝ }
+{
+    let only = word(kind, bits);
+    Words {
+        count: 1,
+        list: [only, 0, 0, 0],
+    }
+}
+
+// Two words.
+fn two(kind: u16, bits: u32, kind2: u16, bits2: u32) -> Words
+    ensures { λ r. ⌜ r ≡ listed (cut ((kind + bits) ∷ (kind2 + bits2) ∷ [])) ⌝ }
+{
+    let first = word(kind, bits);
+    let second = word(kind2, bits2);
+    Words {
+        count: 2,
+        list: [first, second, 0, 0],
+    }
+}
+
 impl Order {
-    // The data of the words that move the mirror or the cover, or start a task.
-    fn act_bits(self) -> [u32; 4]
-        ensures { λ r. ⌜ r ≡ four (actBits self) ⌝ }
+    // The words of a window order.
+    fn window_words(self) -> Words
+        requires { ⌜ self .code ≡ window ⌝ }
+        ensures { λ r. ⌜ r ≡ listed (wordsCut self) ⌝ }
     {
-        let code = self.code;
-        let a = self.a as u32;
-        let b = self.b as u32;
-        if code == codes::MIRROR {
-            let sine = sine_register(self.a) as u32;
-            return [sine / 256, sine % 256, b / 256, b % 256];
+        let x1 = word(WIN_X1, self.a as u32);
+        let y1 = word(WIN_Y1, self.b as u32);
+        let x2 = word(WIN_X2, self.c as u32);
+        let y2 = word(WIN_Y2, self.d as u32);
+        Words {
+            count: 4,
+            list: [x1, y1, x2, y2],
         }
-        if code == codes::MOTOR {
-            return [switch_bits(a), 0, 0, 0];
-        }
-        if code == codes::COVER {
-            return [
-                a * 512 + b * 256 + self.c as u32 * 128 + self.d as u32,
-                0,
-                0,
-                0,
-            ];
-        }
-        [0, 0, 0, 0]
     }
 
-    // The data of the order's words.
-    fn bits(self) -> [u32; 4]
-        ensures { λ r. ⌜ r ≡ four (bitsOf self) ⌝ }
+    // The words of a mirror order.
+    fn mirror_words(self) -> Words
+        requires { ⌜ self .code ≡ mirror ⌝ }
+        ensures { λ r. ⌜ r ≡ listed (wordsCut self) ⌝ }
     {
-        let code = self.code;
-        let a = self.a as u32;
-        let b = self.b as u32;
-        let voltage = (code == codes::VDETCOM) | (code == codes::VDETADJ);
-        if voltage {
-            return [a / 256, a % 256, 0, 0];
+        let sine = sine_register(self.a) as u32;
+        let cosine = self.b as u32;
+        let sin_m = word(SIN_M, sine / 256);
+        let sin_l = word(SIN_L, sine % 256);
+        let cos_m = word(COS_M, cosine / 256);
+        let cos_l = word(COS_L, cosine % 256);
+        Words {
+            count: 4,
+            list: [sin_m, sin_l, cos_m, cos_l],
         }
-        let times = (code == codes::IR_TIMES) | (code == codes::CCD_TIMES);
-        if times {
-            return [a, b, 0, 0];
-        }
-        let mode = (code == codes::WINDOW_MODE) | (code == codes::DETECTOR);
-        if mode {
-            return [a, 0, 0, 0];
-        }
-        if code == codes::WINDOW {
-            return [a, b, self.c as u32, self.d as u32];
-        }
-        let lamp = (code == codes::CCD_LAMP) | (code == codes::IR_LAMP);
-        let level = (code == codes::SHUTTER) | (code == codes::ANNEALING);
-        if lamp | level {
-            return [a + 2 * b, 0, 0, 0];
-        }
-        self.act_bits()
     }
 
-    // The words of the order; an order that does not fit has none.
+    // The data of a cover order's word.
+    fn cover_bits(self) -> u32
+        ensures { λ r. ⌜ r ≡ coverBits (self .a) (self .b) (self .c) (self .d) ⌝ }
+    {
+        self.a as u32 * 512 + self.b as u32 * 256 + self.c as u32 * 128 + self.d as u32
+    }
+
+    // The words of the order, each cut to sixteen bits; a wait and what is no code have none.
     pub fn words(self) -> Words
-        ensures { λ r. ⌜ r ≡ listed (wordsIfFit self) ⌝ }
+        ensures { λ r. ⌜ r ≡ listed (wordsCut self) ⌝ }
     {
-        if !self.fits() {
-            return Words {
+        let code = self.code;
+        let a = self.a as u32;
+        let b = self.b as u32;
+        let switched = a + 2 * b;
+        match code {
+            codes::VDETCOM => two(VDETCOM_M, a / 256, VDETCOM_L, a % 256),
+            codes::VDETADJ => two(VDETADJ_M, a / 256, VDETADJ_L, a % 256),
+            codes::IR_TIMES => two(IR_DELAY, a, IR_EXPO, b),
+            codes::CCD_TIMES => two(CCD_DELAY, a, CCD_EXPO, b),
+            codes::WINDOW_MODE => one(IR_WIN_MODE, a),
+            codes::WINDOW => self.window_words(),
+            codes::DETECTOR => one(IR_DETECTOR, a),
+            codes::CCD_LAMP => one(CCD_LAMP, switched),
+            codes::IR_LAMP => one(IR_LAMP, switched),
+            codes::SHUTTER => one(SHUTTER, switched),
+            codes::ANNEALING => one(ANNEALING, switched),
+            codes::MIRROR => self.mirror_words(),
+            codes::MOTOR => one(SWITCH, switch_bits(a)),
+            codes::COVER => one(COVER, self.cover_bits()),
+            codes::EXPOSE => one(START, 0),
+            codes::HOUSEKEEPING => one(HK, 0),
+            _ => Words {
                 count: 0,
                 list: [0, 0, 0, 0],
-            };
-        }
-        let code = self.code;
-        let bits = self.bits();
-        let count = word_count(code);
-        let first = word_at(code, 0, bits[0]);
-        let second = word_at(code, 1, bits[1]);
-        let third = word_at(code, 2, bits[2]);
-        let fourth = word_at(code, 3, bits[3]);
-        Words {
-            count,
-            list: [first, second, third, fourth],
+            },
         }
     }
 }

@@ -17,10 +17,10 @@ use Rattle.words.specs.Kinds.{bitsOf}
 use Rattle.plan.specs.Codes as code
 use Rattle.plan.specs.Codes.{known, fieldsFit, fit}
 use Rattle.plan.specs.Words.{Item, send, pause, wordsOf, itemsOf, itemsOfAll}
-use Rattle.plan.specs.Encoding.{kindRows, kindsOf, four, wordsIfFit, listed}
+use Rattle.plan.specs.Encoding.{kindRows, kindsOf, four, wordsCut, listed}
 use Rattle.plan.specs.declared.order.Order.{Order}
 use Rattle.plan.specs.declared.encoding.Words.{Words}
-use Rattle.plan.proofs.OrderWords.{words-are, all-allowed, length-by, fit-words}
+use Rattle.plan.proofs.OrderWords.{words-count, fit-cut}
 use Rattle.schedule.specs.Schedule.{Timed, Schedule}
 use Rattle.schedule.specs.Clock.{kindIn, tickFor, clockAfter, clockedFrom, clockThrough}
 use Rattle.schedule.specs.Translate.{wordList, tickList, wordsIn, ticksFrom}
@@ -38,7 +38,7 @@ module _ (o : Order) (f : fit o ≡ true) where
   is-known = and-left (known (o .code)) (fieldsFit o) f
 
   pub fit-count : length (wordsOf o) ≡ length (kindsOf (o .code))
-  fit-count = ap length (words-are o is-known) ∙ length-by (kindsOf (o .code)) _ (all-allowed o f)
+  fit-count = words-count o is-known
 
   pub fit-few : length (wordsOf o) ≤ 4
   unfolding known
@@ -48,9 +48,9 @@ module _ (o : Order) (f : fit o ≡ true) where
       omega (arith, fit-count, length-take 4 (kindsOf (o .code)))
 
   -- what the code is given for the order holds its words
-  pub given-words : (r : Words) → r ≡ listed (wordsIfFit o) → wordsIn r ≡ wordsOf o
+  pub given-words : (r : Words) → r ≡ listed (wordsCut o) → wordsIn r ≡ wordsOf o
   unfolding listed
-  given-words r is = rw (is, fit-words o f) (all (wordsOf o) fit-few)
+  given-words r is = rw (is, fit-cut o f) (all (wordsOf o) fit-few)
     where
       all : (ws : List ℕ) → length ws ≤ 4 → take (length ws) (four ws) ≡ ws
       all [] h = refl
@@ -60,9 +60,9 @@ module _ (o : Order) (f : fit o ≡ true) where
       all (a ∷ b ∷ c ∷ d ∷ []) h = refl
       all (a ∷ b ∷ c ∷ d ∷ e ∷ ws) h = absurd (omega arith)
 
-  pub given-count : (r : Words) → r ≡ listed (wordsIfFit o) → r .count ≡ length (wordsOf o)
+  pub given-count : (r : Words) → r ≡ listed (wordsCut o) → r .count ≡ length (wordsOf o)
   unfolding listed
-  given-count r is = rw (is, fit-words o f)
+  given-count r is = rw (is, fit-cut o f)
 
 module _ (o : Order) where
   -- a wait is a pause and has no words; any other order is its words
