@@ -192,7 +192,7 @@ module _ (n : ℕ) (c : Clock) (h : Near n c) where
       go true = omega arith
       go false = omega arith
 
-  pub span-near : (k : ℕ) → spanAt c k ≤ 4238
+  span-near : (k : ℕ) → spanAt c k ≤ 4238
   unfolding spanAt
   span-near k = go (eqb k kind.start) (eqb k kind.hk)
     where

@@ -1,97 +1,90 @@
--- Words laid into a list of words and a list of ticks, one after another from a place on.
+-- The words of an order and their ticks laid into two lists from a place on: the ways through `put_words`.
 -- Assumes nothing.
-use mathlib.Core.Path.{_≡_, refl, sym, ap, _∙_}
-use mathlib.Core.List.{List, [], _∷_, map}
-use Prim.Native.Nat.{ℕ, zero, suc, _+_, _*_, _≤_, _<_}
-use native.Mathlib.Nat.{add-zero, add-suc, mod-lt}
+use mathlib.Core.Path.{_≡_, refl, sym, _∙_}
+use mathlib.Core.Bool.{true, cond}
+use mathlib.Core.List.{List, [], _∷_}
+use Prim.Native.Nat.{ℕ, suc, _+_, _≤_}
+use native.Mathlib.Nat.{add-assoc}
 use native.Mathlib.Numerals.{add-one}
 use native.Mathlib.Omega.{arith}
-use lib.Dec.{lit<}
-use lib.ListN.{length, getD, take, drop, set, length-set, drop-of-length-le}
-use lib.Seq.{sets, drop-cons, length-take-le, getD-take}
-use Rattle.words.specs.Kinds.{bitsOf}
-use Rattle.plan.specs.Words.{send}
-use Rattle.schedule.specs.Clock.{Near, early, kindIn, tickFor, clockAfter, clockThrough, clockedFrom}
-use Rattle.schedule.specs.Translate.{ticksFrom, clockPast}
-use Rattle.schedule.specs.declared.clock.Clock.{Clock}
-use Rattle.schedule.proofs.Clocked.{near-after, near-more}
+use borrow.Author.Tests.{leb-true}
+use lib.Dec.{T, leb, eqb}
+use lib.ListN.{length, getD, take, set}
+use lib.Seq.{sets}
+use Rattle.words.proofs.Tables.{agree, agree-at}
+use Rattle.words.proofs.Tests.{and-right}
+use Rattle.plan.specs.Codes.{known, fit}
+use Rattle.plan.specs.Encoding.{kindRows, kindsOf, four}
+use Rattle.plan.specs.Words.{wordsOf}
+use Rattle.plan.specs.declared.order.Order.{Order}
+use Rattle.plan.proofs.Fit.{fit-known}
+use Rattle.schedule.specs.Filled.{upFrom}
+use Rattle.schedule.proofs.OrderLaid.{fit-count}
 
--- i of the words ws have been laid from a place on, which left the two lists and the clock so
-pub record Laying (words₀ ticks₀ : List ℕ) (from : ℕ) (start : Clock) (ws words ticks : List ℕ) (clock : Clock) (i : ℕ) : Type 0 where
-  pub within : i ≤ length ws
-  pub few : length ws ≤ 4
-  pub roomWords : from + length ws ≤ length words₀
-  pub roomTicks : from + length ws ≤ length ticks₀
-  pub longWords : length words ≡ length words₀
-  pub longTicks : length ticks ≡ length ticks₀
-  pub sameWords : sets words₀ from ws ≡ sets words (from + i) (drop i ws)
-  pub sameTicks : sets ticks₀ from (ticksFrom start ws) ≡ sets ticks (from + i) (ticksFrom clock (drop i ws))
-  pub sameClock : clockPast start ws ≡ clockPast clock (drop i ws)
-  pub near : Near (early + 7413 * i) clock
+-- no order has three words
+no-three : T (agree (λ k. cond (eqb (length (kindsOf k)) 3) 1 0) (λ k. 0) 18)
+unfolding kindsOf kindRows
+no-three = tt
 
-module _ (words₀ ticks₀ : List ℕ) (from : ℕ) (start : Clock) (ws : List ℕ) where
-  pub laying-first : length ws ≤ 4 → from + length ws ≤ length words₀ → from + length ws ≤ length ticks₀ → Near early start
-      → Laying words₀ ticks₀ from start ws words₀ ticks₀ start 0
-  laying-first few rw₁ rt near =
-      record {
-        within = omega arith;
-        few = few;
-        roomWords = rw₁;
-        roomTicks = rt;
-        longWords = refl;
-        longTicks = refl;
-        sameWords = rw (add-zero from);
-        sameTicks = rw (add-zero from);
-        sameClock = refl;
-        near = near-more early (early + 7413 * 0) start (omega arith) near;
-      }
+pub fit-not-three : (o : Order) → fit o ≡ true → length (wordsOf o) ≡ 3 → ⊥
+unfolding known
+fit-not-three o f e =
+    let n = o .code in
+    let most = leb-true n 17 (and-right (leb 1 n) (leb n 17) (fit-known o f)) in
+    let none = agree-at (λ k. cond (eqb (length (kindsOf k)) 3) 1 0) (λ k. 0) 18 no-three n (omega arith) in
+    let is : length (kindsOf n) ≡ 3 = sym (fit-count o f) ∙ e in
+    let differ : _≡_ {A = ℕ} 1 0 = rw is at none in
+    absurd (omega arith)
 
-  module _ (words ticks : List ℕ) (clock : Clock) (i : ℕ) (h : Laying words₀ ticks₀ from start ws words ticks clock i) where
-    step : i < length ws → (v : ℕ) → v ≡ getD ws i 0
-        → Laying words₀ ticks₀ from start ws (set words (from + i) v) (set ticks (from + i) (tickFor clock (kindIn v)))
-        (clockAfter clock (kindIn v) (bitsOf v)) (i + 1)
-    unfolding clockedFrom clockThrough
-    step more v is =
-        let next : drop i ws ≡ v ∷ drop (suc i) ws = drop-cons ws i 0 more ∙ ap (λ (x : ℕ). x ∷ drop (suc i) ws) (sym is) in
-        record {
-          within = omega arith;
-          few = h .few;
-          roomWords = h .roomWords;
-          roomTicks = h .roomTicks;
-          longWords = length-set words (from + i) v ∙ h .longWords;
-          longTicks = length-set ticks (from + i) (tickFor clock (kindIn v)) ∙ h .longTicks;
-          sameWords = rw (add-one i, add-suc from i) (rw next at (h .sameWords));
-          sameTicks = rw (add-one i, add-suc from i) (rw next at (h .sameTicks));
-          sameClock = rw (add-one i) (rw next at (h .sameClock));
-          near =
-              near-more (early + 7413 * i + 7413) (early + 7413 * (i + 1)) (clockAfter clock (kindIn v) (bitsOf v)) (omega arith)
-              (near-after (early + 7413 * i) clock (h .near) (kindIn v) (bitsOf v) (mod-lt v {m = 1024} (lit< tt)));
-        }
+-- what is left of the counts
+pub only-four : (n : ℕ) → n ≤ 4 → (n ≡ 0 → ⊥) → (n ≡ 1 → ⊥) → (n ≡ 2 → ⊥) → (n ≡ 3 → ⊥) → n ≡ 4
+only-four n h a b c d = omega arith
 
-    pub laying-step : i < length ws → (v : ℕ) → v ≡ getD ws i 0 → (words' ticks' : List ℕ) (clock' : Clock)
-        → clock' ≡ clockAfter clock (kindIn v) (bitsOf v) → words' ≡ set words (from + i) v
-        → ticks' ≡ set ticks (from + i) (tickFor clock (kindIn v))
-        → Laying words₀ ticks₀ from start ws words' ticks' clock' (i + 1)
-    laying-step more v is words' ticks' clock' c w t = rw (c, w, t) (step more v is)
+two-on : (i : ℕ) → i + 2 ≡ suc (suc i)
+two-on i = omega arith
 
-    module _ (all : length ws ≤ i) where
-      done : drop i ws ≡ []
-      done = drop-of-length-le ws all
+-- two words one after another, into the lists w and t
+pub laid-pair : (w t : List ℕ) (i k a b : ℕ) {w₁ t₁ w₂ t₂ : List ℕ} → (w₁ ≡ set w i a) × (t₁ ≡ set t i k)
+    → (w₂ ≡ set w₁ (i + 1) b) × (t₂ ≡ set t₁ (i + 1) (k + 1)) → (w₂ ≡ sets w i (a ∷ b ∷ [])) × (t₂ ≡ sets t i (upFrom k 2))
+unfolding upFrom
+laid-pair w t i k a b first second = (rw (second .0, first .0, add-one i), rw (second .1, first .1, add-one i))
 
-      pub laid-words : words ≡ sets words₀ from ws
-      laid-words = sym (h .sameWords ∙ ap (sets words (from + i)) done)
+-- n of four words ws from place i on, the first of them at tick k, into the lists w and t
+module _ (w t : List ℕ) (i k : ℕ) (ws : List ℕ) (long : length ws ≡ 4) (n : ℕ) where
+  abbrev Laid : List ℕ → List ℕ → Type 0
+  Laid w' t' = (w' ≡ sets w i (take n ws)) × (t' ≡ sets t i (upFrom k n))
 
-      pub laid-ticks : ticks ≡ sets ticks₀ from (ticksFrom start ws)
-      unfolding clockedFrom
-      laid-ticks = sym (h .sameTicks ∙ ap (λ (l : List ℕ). sets ticks (from + i) (ticksFrom clock l)) done)
+  -- the first two of them
+  abbrev Two : List ℕ → List ℕ → Type 0
+  Two w' t' = (w' ≡ sets w i (getD ws 0 0 ∷ getD ws 1 0 ∷ [])) × (t' ≡ sets t i (upFrom k 2))
 
-      pub laid-clock : clock ≡ clockPast start ws
-      unfolding clockThrough
-      laid-clock = sym (h .sameClock ∙ ap (clockPast clock) done)
+  each : take n ws ≡ take n (four ws)
+  each = go ws long
+    where
+      go : (vs : List ℕ) → length vs ≡ 4 → take n vs ≡ take n (four vs)
+      go (a ∷ b ∷ c ∷ d ∷ []) h = refl
+      go [] h = absurd (omega arith)
+      go (a ∷ []) h = absurd (omega arith)
+      go (a ∷ b ∷ []) h = absurd (omega arith)
+      go (a ∷ b ∷ c ∷ []) h = absurd (omega arith)
+      go (a ∷ b ∷ c ∷ d ∷ e ∷ vs) h = absurd (omega arith)
 
--- a counted array of four holds as many words as it says
-pub counted : (l : List ℕ) (n : ℕ) → length l ≡ 4 → n ≤ 4 → length (take n l) ≡ n
-counted l n long few = length-take-le n l (omega arith)
+  pub laid-none : n ≡ 0 → Laid w t
+  unfolding upFrom
+  laid-none is = rw (each, is) (refl, refl)
 
-pub counted-at : (l : List ℕ) (n i : ℕ) → i < n → getD l i 0 ≡ getD (take n l) i 0
-counted-at l n i h = sym (getD-take n l i 0 h)
+  pub laid-one : {w' t' : List ℕ} → (w' ≡ set w i (getD ws 0 0)) × (t' ≡ set t i k) → n ≡ 1 → Laid w' t'
+  unfolding upFrom
+  laid-one put is = rw (each, is) put
+
+  pub laid-two : {w' t' : List ℕ} → Two w' t' → n ≡ 2 → Laid w' t'
+  laid-two put is = rw (each, is) put
+
+  pub laid-four : {w₁ t₁ w₂ t₂ : List ℕ} → Two w₁ t₁
+      → (w₂ ≡ sets w₁ (i + 2) (getD ws 2 0 ∷ getD ws 3 0 ∷ [])) × (t₂ ≡ sets t₁ (i + 2) (upFrom (k + 2) 2)) → n ≡ 4 → Laid w₂ t₂
+  unfolding upFrom
+  laid-four first second is =
+      rw (each, is) (
+        second .0 ∙ rw (first .0, two-on i),
+        second .1 ∙ rw (first .1, two-on i, add-assoc k 1 1),
+      )

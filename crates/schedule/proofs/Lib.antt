@@ -3,9 +3,9 @@ pub mod Orders
 pub mod Ready
 pub mod Clocked
 pub mod Plans
-pub mod Advance
-pub mod Laying
+pub mod OrderClocked
 pub mod OrderLaid
+pub mod Laying
 pub mod OnePass
 pub mod Copying
 pub mod Translating

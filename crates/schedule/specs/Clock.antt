@@ -11,6 +11,7 @@ use Rattle.words.specs.Kinds.{kindOf, identifier, bitsOf}
 use Rattle.head.specs.Limits.{mirrorTicks, coverStepTicks, hkTicks, lengthBy}
 use Rattle.head.specs.declared.state.Motion.{Motion}
 use Rattle.head.specs.declared.state.Head.{Head}
+use Rattle.plan.specs.Codes as code
 use Rattle.plan.specs.Words.{Item, send, pause}
 use Rattle.schedule.specs.Schedule.{Schedule, following}
 use Rattle.schedule.specs.declared.clock.Clock.{Clock}
@@ -56,6 +57,10 @@ unfoldable pub tickFor : Clock → ℕ → ℕ
 tickFor c k =
     cond (eqb k kind.start) (max (c .now) (max (c .mirror) (c .cover)))
     (cond (eqb k kind.cover) (max (c .now) (c .cover)) (c .now))
+
+-- The tick of the first word of an order with code n: EXPOSE goes as START, COVER as COVER, any other as NOP, which waits for nothing.
+unfoldable pub firstTick : Clock → ℕ → ℕ
+firstTick c n = tickFor c (cond (eqb n code.expose) kind.start (cond (eqb n code.cover) kind.cover kind.nop))
 
 -- The length of an acquisition under the clock's settings.
 unfoldable pub lengthAt : Clock → ℕ

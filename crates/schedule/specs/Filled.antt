@@ -1,7 +1,7 @@
 -- What one order leaves in the two lists and of the clock, as the code's steps promise it.
 -- Assumes nothing.
 use mathlib.Core.List.{List, [], _∷_}
-use Prim.Native.Nat.{ℕ, _+_}
+use Prim.Native.Nat.{ℕ, zero, suc, _+_}
 use mathlib.Core.Path.{_≡_}
 use lib.ListN.{length}
 use lib.Seq.{sets}
@@ -17,6 +17,11 @@ use Rattle.schedule.specs.declared.clock.Clock.{Clock}
 -- The ticks of an order's words.
 abbrev pub orderTicks : Clock → Order → List ℕ
 orderTicks c o = tickList (clockedFrom c (itemsOf o))
+
+-- So many ticks, one after another.
+unfoldable pub upFrom : ℕ → ℕ → List ℕ
+upFrom t zero = []
+upFrom t (suc n) = t ∷ upFrom (t + 1) n
 
 -- The schedule of orders from a clock on.
 abbrev pub timedBy : Clock → List Order → Schedule

@@ -11,7 +11,7 @@ use Rattle.plan.specs.Stored.{Plan, orders, refused, planOf}
 use Rattle.plan.specs.Words.{send, itemsOfAll}
 use Rattle.plan.specs.declared.encoding.Words.{Words}
 use Rattle.schedule.specs.Earliest.{atRest}
-use Rattle.schedule.specs.Clock.{clockedFrom, clockThrough}
+use Rattle.schedule.specs.Clock.{clockedFrom}
 use Rattle.schedule.specs.declared.clock.Clock.{Clock}
 use Rattle.schedule.specs.Schedule.{Timed, Schedule, scheduleFrom}
 use Rattle.schedule.specs.declared.Translated.{Translated}
@@ -50,15 +50,12 @@ tickList sch = map (λ (x : Timed). x .tick) (sch .list)
 abbrev pub wordList : Schedule → List ℕ
 wordList sch = map (λ (x : Timed). x .word) (sch .list)
 
--- The words that a counted array holds, their ticks from a clock on, and the clock after them.
+-- The words that a counted array holds, and their ticks from a clock on.
 abbrev pub wordsIn : Words → List ℕ
 wordsIn ws = take (ws .count) (ws .list)
 
 abbrev pub ticksFrom : Clock → List ℕ → List ℕ
 ticksFrom c ws = tickList (clockedFrom c (map send ws))
-
-abbrev pub clockPast : Clock → List ℕ → Clock
-clockPast c ws = clockThrough c (map send ws)
 
 -- The refusal's number of document 01, 0 for none, and its byte place.
 unfoldable pub translatedNumber : Translated → ℕ

@@ -1,19 +1,26 @@
 // The clock of a translation.
 use head::apply::acquisition_ticks;
 use head::state::Head;
-use words::kinds::CCD_DELAY;
-use words::kinds::CCD_EXPO;
-use words::kinds::COS_L;
-use words::kinds::COVER;
-use words::kinds::HK;
-use words::kinds::IR_DELAY;
-use words::kinds::IR_EXPO;
-use words::kinds::IR_WIN_MODE;
-use words::kinds::START;
-use words::kinds::SWITCH;
+use plan::codes::CCD_TIMES;
+use plan::codes::COVER;
+use plan::codes::EXPOSE;
+use plan::codes::HOUSEKEEPING;
+use plan::codes::IR_TIMES;
+use plan::codes::MIRROR;
+use plan::codes::MOTOR;
+use plan::codes::WAIT;
+use plan::codes::WINDOW_MODE;
+use plan::order::Order;
 ghost use mathlib.Core.Path.{_≡_};
+ghost use mathlib.Core.Bool.{true};
 ghost use Prim.Native.Nat.{max};
-ghost use Rattle.schedule.specs.Clock.{clockOf, tickFor, spanAt, clockAfter, clockPaused, Near, latest};
+ghost use lib.ListN.{length};
+ghost use Rattle.plan.specs.Codes.{fit};
+ghost use Rattle.plan.specs.Words.{wordsOf, itemsOf};
+ghost use Rattle.schedule.specs.Clock.{clockOf, clockThrough, firstTick, Near, early};
+
+// COS L, which starts the mirror, goes so many ticks after the first word of its order.
+const COS_L_PLACE: u32 = 3;
 
 // The tick at which it stands, the ticks at which the mirror and the cover are at rest, and the settings that give the length of an
 // acquisition.
@@ -51,86 +58,77 @@ impl Clock {
         }
     }
 
-    // The tick of a word of this kind.
-    pub fn tick_for(self, kind: u8) -> u32
-        ensures { λ r. ⌜ r ≡ tickFor self kind ⌝ }
+    // The tick of the first word of an order with this code.
+    pub fn first_tick(self, code: u8) -> u32
+        ensures { λ r. ⌜ r ≡ firstTick self code ⌝ }
     {
-        if kind == START {
+        if code == EXPOSE {
             return later(self.now, later(self.mirror, self.cover));
         }
-        if kind == COVER {
+        if code == COVER {
             return later(self.now, self.cover);
         }
         self.now
     }
 
-    // From the tick of a word of this kind to the clock after it.
-    pub fn span(self, kind: u8) -> u32
-        ensures { λ r. ⌜ r ≡ spanAt self kind ⌝ }
+    // The clock after an order whose first word goes at this tick and that has so many words.
+    pub(crate) fn after_order(mut self, order: Order, tick: u32, count: u32) -> Clock
+        requires { ⌜ fit order ≡ true ⌝ ∗ ⌜ Near early self ⌝ }
+        requires { ⌜ tick ≡ firstTick self (order .code) ⌝ ∗ ⌜ count ≡ length (wordsOf order) ⌝ }
+        ensures { λ r. ⌜ r ≡ clockThrough self (itemsOf order) ⌝ }
     {
-        if kind == START {
-            return acquisition_ticks(
-                self.mode,
-                self.irdelay,
-                self.irexpo,
-                self.ccddelay,
-                self.ccdexpo,
-            );
-        }
-        if kind == HK {
-            return Head::HK_TICKS as u32;
-        }
-        1
-    }
-
-    // The clock after a word of this kind with these data.
-    pub(crate) fn after(mut self, kind: u8, bits: u16) -> Clock
-        requires { ⌜ Near latest self ⌝ }
-        ensures { λ r. ⌜ r ≡ clockAfter self kind bits ⌝ }
-    {
-        let tick = self.tick_for(kind);
-        let span = self.span(kind);
-        self.now = tick + span;
-        let moves = (kind == COS_L) | ((kind == SWITCH) & (bits == 0));
-        if moves {
-            self.mirror = tick + Head::MIRROR_TICKS as u32;
-            return self;
-        }
-        match kind {
+        let code = order.code;
+        self.now = tick + count;
+        match code {
+            EXPOSE => {
+                let ticks = acquisition_ticks(
+                    self.mode,
+                    self.irdelay,
+                    self.irexpo,
+                    self.ccddelay,
+                    self.ccdexpo,
+                );
+                self.now = tick + ticks;
+                self
+            }
+            HOUSEKEEPING => {
+                self.now = tick + Head::HK_TICKS as u32;
+                self
+            }
+            WAIT => {
+                self.now = tick + order.a as u32;
+                self
+            }
+            MIRROR => {
+                self.mirror = tick + (COS_L_PLACE + Head::MIRROR_TICKS as u32);
+                self
+            }
+            MOTOR => {
+                if order.a == 0 {
+                    return self;
+                }
+                self.mirror = tick + Head::MIRROR_TICKS as u32;
+                self
+            }
             COVER => {
-                self.cover = tick + Head::COVER_STEP_TICKS as u32 * (bits % 128) as u32;
+                self.cover = tick + Head::COVER_STEP_TICKS as u32 * order.d as u32;
                 self
             }
-            IR_WIN_MODE => {
-                self.mode = bits;
+            WINDOW_MODE => {
+                self.mode = order.a;
                 self
             }
-            IR_DELAY => {
-                self.irdelay = bits;
+            IR_TIMES => {
+                self.irdelay = order.a;
+                self.irexpo = order.b;
                 self
             }
-            IR_EXPO => {
-                self.irexpo = bits;
-                self
-            }
-            CCD_DELAY => {
-                self.ccddelay = bits;
-                self
-            }
-            CCD_EXPO => {
-                self.ccdexpo = bits;
+            CCD_TIMES => {
+                self.ccddelay = order.a;
+                self.ccdexpo = order.b;
                 self
             }
             _ => self,
         }
-    }
-
-    // A wait adds its ticks.
-    pub(crate) fn paused(mut self, ticks: u16) -> Clock
-        requires { ⌜ Near latest self ⌝ }
-        ensures { λ r. ⌜ r ≡ clockPaused self ticks ⌝ }
-    {
-        self.now = self.now + ticks as u32;
-        self
     }
 }
