@@ -16,7 +16,7 @@ use Rattle.blocks.specs.Ir.{irBlockOf, irShown, irStatus}
 use Rattle.blocks.specs.Ccd.{ccdBlockOf, ccdShown, ccdStatus}
 use Rattle.blocks.specs.Due.{acquisition, bothWrittenOf, irDueAfter, ccdDueAfter}
 use Rattle.plan.specs.Codes.{countOf, widthOf, known, lengthOf as orderLength, within, related, fieldsFit}
-use Rattle.plan.specs.Stored.{fieldAt, orderAt, faultAt, ordersFrom, planOf}
+use Rattle.plan.specs.Stored.{fieldAt, orderAt, faultAt, headerFault, ordersFrom, planOf}
 use Rattle.plan.specs.Words.{sineRegister, wordsOf, itemsOf, itemsOfAll}
 use Rattle.schedule.specs.Earliest.{atRest, isTaken, ready, delayWithin, delayOf}
 use Rattle.schedule.specs.Schedule.{readied, spanOf, sent, scheduleFrom}
@@ -32,6 +32,6 @@ unfolding hold table afterWords answered housekept irHousekept ccdHousekept
     ccdStatus lampShutterWord lampShutterFields irFlagWord irFlagFields sineWord sineIn sineFields visFlagWord visFlagFields composed
     valuesIn
     translateOf translatedNumber answerOfPlan fit scheduleOf scheduleFrom readied spanOf sent ready atRest isTaken delayOf delayWithin
-    planOf ordersFrom faultAt orderAt fieldAt countOf widthOf known orderLength fieldsFit within related
+    planOf headerFault ordersFrom faultAt orderAt fieldAt countOf widthOf known orderLength fieldsFit within related
     itemsOfAll itemsOf wordsOf sineRegister
 starred = tt

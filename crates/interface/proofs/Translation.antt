@@ -11,7 +11,7 @@ use lib.ListN.{length}
 use mir.Syntax.{w8}
 use mir.Val.{Fits}
 use Rattle.head.specs.declared.state.Head.{Head}
-use Rattle.plan.specs.Stored.{Plan, orders, refused, byteAt, pairAt, orderAt, faultAt, before, ordersFrom, mostOrders, planOf}
+use Rattle.plan.specs.Stored.{Plan, orders, refused, byteAt, pairAt, orderAt, faultAt, before, headerFault, ordersFrom, mostOrders, planOf}
 use Rattle.plan.specs.declared.order.Order.{Order}
 use Rattle.plan.specs.Words.{itemsOfAll}
 use Rattle.plan.proofs.Accepted.{AllFit, accepted-fit, accepted-few}
@@ -50,11 +50,14 @@ place-within (suc k) bs at n p =
 
 module _ (bs : List ℕ) (high : byteAt bs 1 < 256) (low : byteAt bs 2 < 256) where
   place-small : (n p : ℕ) → planOf bs ≡ refused n p → p < 2 ^ 32
-  unfolding planOf
+  unfolding planOf headerFault
   place-small n p = go (ltb (length bs) 3) (eqb (byteAt bs 0) 1) (eqb (length bs) (3 + pairAt bs 1)) refl
     where
+      fault : Bool → Bool → Bool → ℕ
+      fault s v l = cond s 2 (cond (not v) 3 (cond (not l) 4 0))
+
       go : (s v l : Bool) → eqb (length bs) (3 + pairAt bs 1) ≡ l
-          → cond s (refused 2 0) (cond (not v) (refused 3 0) (cond (not l) (refused 4 0) (ordersFrom mostOrders bs 3))) ≡ refused n p → p < 2 ^ 32
+          → cond (eqb (fault s v l) 0) (ordersFrom mostOrders bs 3) (refused (fault s v l) 0) ≡ refused n p → p < 2 ^ 32
       go true v l q e = let same : 0 ≡ p = cc in omega arith
       go false false l q e = let same : 0 ≡ p = cc in omega arith
       go false true false q e = let same : 0 ≡ p = cc in omega arith

@@ -1,28 +1,37 @@
 -- The words of an order that fits: how many they are, and that each has sixteen bits.
 -- Assumes nothing.
 use mathlib.Core.Path.{_≡_, refl}
-use mathlib.Core.Bool.{Bool, true, false, cond}
+use mathlib.Core.Bool.{Bool, true, false, cond, not, _&&_}
 use mathlib.Core.List.{List, [], _∷_}
 use Prim.Native.Nat.{ℕ, _+_, _-_, _<_, _≤_}
 use native.Mathlib.Nat.{mod-eq-of-lt}
 use native.Mathlib.Omega.{arith}
 use borrow.Author.Tests.{ltb-false}
-use lib.Dec.{ltb}
+use lib.Dec.{T, T-not, leb, leb→le, ltb, eqb}
+use Rattle.words.proofs.Tables.{left, right}
 use lib.ListN.{length}
 use Rattle.words.specs.Kinds as kind
 use Rattle.words.specs.Codec.{wordOf}
 use Rattle.plan.specs.Codes.{rows, rowOf, fieldsOf, known, fit}
 use Rattle.plan.specs.Words.{sineRegister, wordsOf}
-use Rattle.plan.specs.Encoding.{kindRows, kindsOf, cut, wordsCut}
+use Rattle.plan.specs.Encoding.{cut, wordsCut}
 use Rattle.plan.specs.declared.order.Order.{Order}
 use Rattle.plan.proofs.Fit.{by-order, Bounds, fit-known, fit-fields, fit-bounds}
 
--- an order has as many words as its code has kinds
-pub words-count : (o : Order) → known (o .code) ≡ true → length (wordsOf o) ≡ length (kindsOf (o .code))
-unfolding wordsOf kindRows kindsOf
-words-count o k =
-    by-order (λ p. length (wordsOf p) ≡ length (kindsOf (p .code))) o
-    refl refl refl refl refl refl refl refl refl refl refl refl refl refl refl refl refl k
+-- an order has none, one, two or four words
+pub record Few (n : ℕ) : Type 0 where
+  pub most : n ≤ 4
+  pub three : n ≡ 3 → ⊥
+
+few : (n : ℕ) → T (leb n 4 && not (eqb n 3)) → Few n
+few n ok = record { most = leb→le n 4 (left (leb n 4) (not (eqb n 3)) ok); three = λ e. T-not (eqb n 3) (right (leb n 4) (not (eqb n 3)) ok) (rw e tt) }
+
+pub words-few : (o : Order) → known (o .code) ≡ true → Few (length (wordsOf o))
+unfolding wordsOf
+words-few o k =
+    by-order (λ p. Few (length (wordsOf p))) o
+    (few 2 tt) (few 2 tt) (few 2 tt) (few 2 tt) (few 1 tt) (few 4 tt) (few 1 tt) (few 1 tt) (few 1 tt)
+    (few 1 tt) (few 1 tt) (few 4 tt) (few 1 tt) (few 1 tt) (few 1 tt) (few 1 tt) (few 0 tt) k
 
 -- each word has sixteen bits
 abbrev Sixteen : List ℕ → Type 0

@@ -1,40 +1,12 @@
--- Document 01, "Plans": the kinds of the words of each code, and the words of an order as the code answers them. Those of an order that
--- fits are `wordsOf`: law `fit-cut` of proofs/OrderWords.antt.
+-- Document 01, "Plans": the words of an order as the code answers them. Those of an order that fits are `wordsOf`: law `fit-cut` of
+-- proofs/OrderWords.antt.
 -- Assumes nothing.
 use Prim.Native.Nat.{ℕ, _%_}
 use mathlib.Core.List.{List, [], _∷_, map}
 use lib.ListN.{length, getD}
-use Rattle.words.specs.Kinds as kind
 use Rattle.plan.specs.Words.{wordsOf}
 use Rattle.plan.specs.declared.order.Order.{Order}
 use Rattle.plan.specs.declared.encoding.Words.{Words}
-
--- The kinds of the words of each code; row 0 is no code.
-unfoldable pub kindRows : List (List ℕ)
-kindRows =
-    []
-    ∷ (kind.vdetcomM ∷ kind.vdetcomL ∷ [])
-    ∷ (kind.vdetadjM ∷ kind.vdetadjL ∷ [])
-    ∷ (kind.irDelay ∷ kind.irExpo ∷ [])
-    ∷ (kind.ccdDelay ∷ kind.ccdExpo ∷ [])
-    ∷ (kind.irWinMode ∷ [])
-    ∷ (kind.winX1 ∷ kind.winY1 ∷ kind.winX2 ∷ kind.winY2 ∷ [])
-    ∷ (kind.irDetector ∷ [])
-    ∷ (kind.ccdLamp ∷ [])
-    ∷ (kind.irLamp ∷ [])
-    ∷ (kind.shutter ∷ [])
-    ∷ (kind.annealing ∷ [])
-    ∷ (kind.sinM ∷ kind.sinL ∷ kind.cosM ∷ kind.cosL ∷ [])
-    ∷ (kind.switch ∷ [])
-    ∷ (kind.cover ∷ [])
-    ∷ (kind.start ∷ [])
-    ∷ (kind.hk ∷ [])
-    ∷ []
-    ∷ []
-
-unfoldable pub kindsOf : ℕ → List ℕ
-unfolding kindRows
-kindsOf code = getD kindRows code []
 
 -- The first four of a list; 0 past its end.
 abbrev pub four : List ℕ → List ℕ

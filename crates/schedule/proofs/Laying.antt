@@ -1,40 +1,15 @@
 -- The words of an order and their ticks laid into two lists from a place on: the ways through `put_words`.
 -- Assumes nothing.
 use mathlib.Core.Path.{_≡_, refl, sym, _∙_}
-use mathlib.Core.Bool.{true, cond}
 use mathlib.Core.List.{List, [], _∷_}
 use Prim.Native.Nat.{ℕ, suc, _+_, _≤_}
 use native.Mathlib.Nat.{add-assoc}
 use native.Mathlib.Numerals.{add-one}
 use native.Mathlib.Omega.{arith}
-use borrow.Author.Tests.{leb-true}
-use lib.Dec.{T, leb, eqb}
 use lib.ListN.{length, getD, take, set}
 use lib.Seq.{sets}
-use Rattle.words.proofs.Tables.{agree, agree-at}
-use Rattle.words.proofs.Tests.{and-right}
-use Rattle.plan.specs.Codes.{known, fit}
-use Rattle.plan.specs.Encoding.{kindRows, kindsOf, four}
-use Rattle.plan.specs.Words.{wordsOf}
-use Rattle.plan.specs.declared.order.Order.{Order}
-use Rattle.plan.proofs.Fit.{fit-known}
+use Rattle.plan.specs.Encoding.{four}
 use Rattle.schedule.specs.Filled.{upFrom}
-use Rattle.schedule.proofs.OrderLaid.{fit-count}
-
--- no order has three words
-no-three : T (agree (λ k. cond (eqb (length (kindsOf k)) 3) 1 0) (λ k. 0) 18)
-unfolding kindsOf kindRows
-no-three = tt
-
-pub fit-not-three : (o : Order) → fit o ≡ true → length (wordsOf o) ≡ 3 → ⊥
-unfolding known
-fit-not-three o f e =
-    let n = o .code in
-    let most = leb-true n 17 (and-right (leb 1 n) (leb n 17) (fit-known o f)) in
-    let none = agree-at (λ k. cond (eqb (length (kindsOf k)) 3) 1 0) (λ k. 0) 18 no-three n (omega arith) in
-    let is : length (kindsOf n) ≡ 3 = sym (fit-count o f) ∙ e in
-    let differ : _≡_ {A = ℕ} 1 0 = rw is at none in
-    absurd (omega arith)
 
 -- what is left of the counts
 pub only-four : (n : ℕ) → n ≤ 4 → (n ≡ 0 → ⊥) → (n ≡ 1 → ⊥) → (n ≡ 2 → ⊥) → (n ≡ 3 → ⊥) → n ≡ 4

@@ -7,45 +7,30 @@ use Prim.Native.Nat.{ℕ, zero, suc, _+_, _*_, _≤_, _<_}
 use native.Mathlib.Nat.{add-zero, add-suc, suc-add}
 use native.Mathlib.Decide.{ℕ-discrete}
 use native.Mathlib.Omega.{arith}
-use borrow.Author.Tests.{leb-true, ne-eqb}
-use lib.Dec.{T, leb}
-use lib.ListN.{length, take, set, length-take, length-map}
+use borrow.Author.Tests.{ne-eqb}
+use lib.ListN.{length, take, set, length-map}
 use lib.Seq.{sets}
-use Rattle.words.proofs.Tables.{agree, agree-at}
-use Rattle.words.proofs.Tests.{and-left, and-right}
 use Rattle.words.specs.Kinds.{bitsOf}
 use Rattle.plan.specs.Codes as code
-use Rattle.plan.specs.Codes.{known, fieldsFit, fit}
+use Rattle.plan.specs.Codes.{fit}
 use Rattle.plan.specs.Words.{Item, send, pause, wordsOf, itemsOf, itemsOfAll}
-use Rattle.plan.specs.Encoding.{kindRows, kindsOf, four, wordsCut, listed}
+use Rattle.plan.specs.Encoding.{four, wordsCut, listed}
 use Rattle.plan.specs.declared.order.Order.{Order}
 use Rattle.plan.specs.declared.encoding.Words.{Words}
-use Rattle.plan.proofs.OrderWords.{words-count, fit-cut}
+use Rattle.plan.proofs.Fit.{fit-known}
+use Rattle.plan.proofs.OrderWords.{words-few, fit-cut}
 use Rattle.schedule.specs.Schedule.{Timed, Schedule}
 use Rattle.schedule.specs.Clock.{kindIn, tickFor, clockAfter, clockedFrom, clockThrough}
 use Rattle.schedule.specs.Translate.{wordList, tickList, wordsIn, ticksFrom}
 use Rattle.schedule.specs.declared.clock.Clock.{Clock}
 use Rattle.schedule.proofs.Clocked.{clocked-list, clocked-end}
 
--- at most four words, as many as the code's kinds
-few-kinds : T (agree (λ k. length (take 4 (kindsOf k))) (λ k. length (kindsOf k)) 18)
-unfolding kindsOf kindRows
-few-kinds = tt
-
 module _ (o : Order) (f : fit o ≡ true) where
-  is-known : known (o .code) ≡ true
-  unfolding fit
-  is-known = and-left (known (o .code)) (fieldsFit o) f
-
-  pub fit-count : length (wordsOf o) ≡ length (kindsOf (o .code))
-  fit-count = words-count o is-known
-
   pub fit-few : length (wordsOf o) ≤ 4
-  unfolding known
-  fit-few =
-      let most = leb-true (o .code) 17 (and-right (leb 1 (o .code)) (leb (o .code) 17) is-known) in
-      let same = agree-at (λ k. length (take 4 (kindsOf k))) (λ k. length (kindsOf k)) 18 few-kinds (o .code) (omega arith) in
-      omega (arith, fit-count, length-take 4 (kindsOf (o .code)))
+  fit-few = words-few o (fit-known o f) .most
+
+  pub fit-not-three : length (wordsOf o) ≡ 3 → ⊥
+  fit-not-three = words-few o (fit-known o f) .three
 
   -- what the code is given for the order holds its words
   pub given-words : (r : Words) → r ≡ listed (wordsCut o) → wordsIn r ≡ wordsOf o

@@ -10,7 +10,7 @@ use Rattle.head.specs.Apply.{after, actOf}
 use Rattle.head.specs.Word.{outOfTurn, onWord, onDecoded, answerOf}
 use Rattle.head.specs.Tick.{tickOf, ticksOf, passed}
 use Rattle.plan.specs.Codes.{countOf, widthOf, known, lengthOf as orderLength, within, related, fieldsFit}
-use Rattle.plan.specs.Stored.{fieldAt, orderAt, faultAt, ordersFrom, planOf}
+use Rattle.plan.specs.Stored.{fieldAt, orderAt, faultAt, headerFault, ordersFrom, planOf}
 use Rattle.plan.specs.Words.{sineRegister, wordsOf, itemsOf, itemsOfAll}
 use Rattle.schedule.specs.Earliest.{atRest, isTaken, ready, delayWithin, delayOf}
 use Rattle.schedule.specs.Schedule.{readied, spanOf, sent, scheduleFrom}
@@ -23,7 +23,7 @@ pub example-listed : printedFor (0x01 ∷ 0x00 ∷ 0x0A ∷ 0x05 ∷ 0x0C ∷ 0x
     ≡ ascii "tick word\n0 2011\n1 A000\n2 600F\n3 E0F8\n33 8000\n191 4000\nend 194\n"
 unfolding printedFor answerText listingOf headLine wordLines wordLine endLine ascii decimalOf decimalWithin hexOf hexDigit
     translateOf answerOfPlan fit scheduleOf scheduleFrom readied spanOf sent ready atRest isTaken delayOf delayWithin
-    planOf ordersFrom faultAt orderAt fieldAt countOf widthOf known orderLength fieldsFit within related
+    planOf headerFault ordersFrom faultAt orderAt fieldAt countOf widthOf known orderLength fieldsFit within related
     itemsOfAll itemsOf wordsOf sineRegister answerOf onDecoded onWord outOfTurn after actOf tickOf ticksOf passed
     inRange all registerTests latchTests motionTests place begunTests workInRange lengthOf readoutOf
     decodeOf judged kindOf kindFrom kinds rows least greatest allowed wordOf

@@ -3,9 +3,8 @@
 use mathlib.Core.Path.{sym, _∙_}
 use native.Mathlib.Omega.{arith}
 use borrow.Author.Needs.{needs}
-use Rattle.schedule.proofs.Laying.{fit-not-three}
 use Rattle.schedule.proofs.OrderClocked.{first-near, ticks-are}
-use Rattle.schedule.proofs.OrderLaid.{fit-few, given-words, given-count}
+use Rattle.schedule.proofs.OrderLaid.{fit-few, given-words, given-count, fit-not-three}
 use Rattle.schedule.proofs.put.put_order.Statement.{statement}
 use Rattle.schedule.proofs.put.put_order.Tie as tie
 
