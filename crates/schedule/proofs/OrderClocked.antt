@@ -16,7 +16,7 @@ use Rattle.plan.specs.Codes as code
 use Rattle.plan.specs.Codes.{is, fit}
 use Rattle.plan.specs.Words.{Item, switchData, wordsOf, itemsOf}
 use Rattle.plan.specs.declared.order.Order.{Order}
-use Rattle.schedule.specs.Clock.{Near, early, tickFor, firstTick, lengthAt, spanAt, clockAfter, clockPaused, clockedFrom, clockThrough}
+use Rattle.schedule.specs.Clock.{Near, early, tickFor, firstTick, lengthAt, setBy, spanAt, clockAfter, clockPaused, clockedFrom, clockThrough}
 use Rattle.schedule.specs.Filled.{orderTicks, upFrom}
 use Rattle.schedule.specs.Translate.{tickList}
 use Rattle.schedule.specs.declared.clock.Clock.{Clock}
@@ -35,16 +35,17 @@ orderSpan c o =
 unfoldable pub orderClock : Clock → Order → Clock
 orderClock c o =
     let t = firstTick c (o .code) in
+    let d = setBy c o in
     record {
       now = t + orderSpan c o;
       mirror =
           cond (is o code.mirror) (t + (3 + mirrorTicks)) (cond (is o code.motor && eqb (switchData (o .a)) 0) (t + mirrorTicks) (c .mirror));
       cover = cond (is o code.cover) (t + coverStepTicks * o .d) (c .cover);
-      mode = cond (is o code.windowMode) (o .a) (c .mode);
-      irdelay = cond (is o code.irTimes) (o .a) (c .irdelay);
-      irexpo = cond (is o code.irTimes) (o .b) (c .irexpo);
-      ccddelay = cond (is o code.ccdTimes) (o .a) (c .ccddelay);
-      ccdexpo = cond (is o code.ccdTimes) (o .b) (c .ccdexpo);
+      mode = d .mode;
+      irdelay = d .irdelay;
+      irexpo = d .irexpo;
+      ccddelay = d .ccddelay;
+      ccdexpo = d .ccdexpo;
     }
 
 -- the clock after steps, and the ticks of their words
@@ -85,7 +86,7 @@ abbrev Clocked : Order → List Step → Type 0
 Clocked o ms = (c : Clock) → (clockBy c ms ≡ orderClock c o) × (ticksBy c ms ≡ upFrom (firstTick c (o .code)) (length (wordsOf o)))
 
 by-codes : ByOrder Clocked
-unfolding tickFor spanAt clockAfter clockPaused upFrom firstTick orderSpan orderClock wordsOf
+unfolding tickFor spanAt clockAfter clockPaused upFrom firstTick setBy orderSpan orderClock wordsOf
 by-codes =
     record {
       vdetcom = λ a b c d k. (rw (two (k .now)), refl);

@@ -12,7 +12,9 @@ use Rattle.head.specs.Limits.{mirrorTicks, coverStepTicks, hkTicks, lengthBy}
 use Rattle.head.specs.declared.state.Motion.{Motion}
 use Rattle.head.specs.declared.state.Head.{Head}
 use Rattle.plan.specs.Codes as code
+use Rattle.plan.specs.Codes.{is}
 use Rattle.plan.specs.Words.{Item, send, pause}
+use Rattle.plan.specs.declared.order.Order.{Order}
 use Rattle.schedule.specs.Schedule.{Schedule, following}
 use Rattle.schedule.specs.declared.clock.Clock.{Clock}
 
@@ -83,6 +85,20 @@ clockAfter c k b =
       irexpo = cond (eqb k kind.irExpo) b (c .irexpo);
       ccddelay = cond (eqb k kind.ccdDelay) b (c .ccddelay);
       ccdexpo = cond (eqb k kind.ccdExpo) b (c .ccdexpo);
+    }
+
+-- The clock with the settings that an order changes.
+unfoldable pub setBy : Clock → Order → Clock
+setBy c o =
+    record {
+      now = c .now;
+      mirror = c .mirror;
+      cover = c .cover;
+      mode = cond (is o code.windowMode) (o .a) (c .mode);
+      irdelay = cond (is o code.irTimes) (o .a) (c .irdelay);
+      irexpo = cond (is o code.irTimes) (o .b) (c .irexpo);
+      ccddelay = cond (is o code.ccdTimes) (o .a) (c .ccddelay);
+      ccdexpo = cond (is o code.ccdTimes) (o .b) (c .ccdexpo);
     }
 
 -- A wait adds its ticks.

@@ -17,7 +17,7 @@ ghost use Prim.Native.Nat.{max};
 ghost use lib.ListN.{length};
 ghost use Rattle.plan.specs.Codes.{fit};
 ghost use Rattle.plan.specs.Words.{wordsOf, itemsOf};
-ghost use Rattle.schedule.specs.Clock.{clockOf, clockThrough, firstTick, Near, early};
+ghost use Rattle.schedule.specs.Clock.{clockOf, clockThrough, firstTick, lengthAt, setBy, Near, early};
 
 // COS L, which starts the mirror, goes so many ticks after the first word of its order.
 const COS_L_PLACE: u32 = 3;
@@ -71,6 +71,43 @@ impl Clock {
         self.now
     }
 
+    // The length of an acquisition under the clock's settings.
+    fn length(self) -> u32
+        ensures { λ r. ⌜ r ≡ lengthAt self ⌝ }
+    {
+        acquisition_ticks(
+            self.mode,
+            self.irdelay,
+            self.irexpo,
+            self.ccddelay,
+            self.ccdexpo,
+        )
+    }
+
+    // The clock with the settings that an order changes.
+    fn set_by(mut self, order: Order) -> Clock
+        ensures { λ r. ⌜ r ≡ setBy self order ⌝ }
+    {
+        let code = order.code;
+        match code {
+            WINDOW_MODE => {
+                self.mode = order.a;
+                self
+            }
+            IR_TIMES => {
+                self.irdelay = order.a;
+                self.irexpo = order.b;
+                self
+            }
+            CCD_TIMES => {
+                self.ccddelay = order.a;
+                self.ccdexpo = order.b;
+                self
+            }
+            _ => self,
+        }
+    }
+
     // The clock after an order whose first word goes at this tick and that has so many words.
     pub(crate) fn after_order(mut self, order: Order, tick: u32, count: u32) -> Clock
         requires { ⌜ fit order ≡ true ⌝ ∗ ⌜ Near early self ⌝ }
@@ -81,13 +118,7 @@ impl Clock {
         self.now = tick + count;
         match code {
             EXPOSE => {
-                let ticks = acquisition_ticks(
-                    self.mode,
-                    self.irdelay,
-                    self.irexpo,
-                    self.ccddelay,
-                    self.ccdexpo,
-                );
+                let ticks = self.length();
                 self.now = tick + ticks;
                 self
             }
@@ -114,21 +145,7 @@ impl Clock {
                 self.cover = tick + Head::COVER_STEP_TICKS as u32 * order.d as u32;
                 self
             }
-            WINDOW_MODE => {
-                self.mode = order.a;
-                self
-            }
-            IR_TIMES => {
-                self.irdelay = order.a;
-                self.irexpo = order.b;
-                self
-            }
-            CCD_TIMES => {
-                self.ccddelay = order.a;
-                self.ccdexpo = order.b;
-                self
-            }
-            _ => self,
+            _ => self.set_by(order),
         }
     }
 }
