@@ -4,3 +4,4 @@ pub mod Judged
 pub mod Words
 pub mod Encoding
 pub mod Reading
+pub mod Rows
