@@ -2,3 +2,4 @@ pub mod Numbers
 pub mod Lines
 pub mod Laid
 pub mod Listing
+pub mod Values

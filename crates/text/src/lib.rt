@@ -2,3 +2,4 @@
 pub mod lines;
 pub mod listing;
 pub mod numbers;
+pub mod values;

@@ -1,0 +1,29 @@
+-- `text::values::put_level` meets its contract: the text of bit 0, then the current or limit.
+-- Assumes nothing.
+use native.Mathlib.Omega.{arith}
+use Rattle.text.specs.Values.{levelText}
+use Rattle.text.proofs.Laying.{laid-then}
+use borrow.Author.Needs.{needs}
+use Rattle.text.proofs.values.put_level.Statement.{statement}
+use Rattle.text.proofs.values.put_level.Tie as tie
+
+put-choice-requires : tie.Need-put-choice-requires
+put-choice-requires c κs = search needs
+
+cast-put-decimal : tie.Need-cast-put-decimal
+cast-put-decimal c = search needs
+
+put-decimal-requires : tie.Need-put-decimal-requires
+put-decimal-requires c κs = search needs
+
+same-length : tie.Need-same-length
+same-length c = search needs
+
+returns : tie.Need-returns
+unfolding levelText
+returns c = (laid-then (c .before .before .before .before .before .before .put-choice .ensures .0) (c .before .before .put-decimal .ensures .0), omega arith)
+
+pub put-level-spec : {M : Type 1} → statement M
+put-level-spec =
+    tie.close
+    (tie.spec put-choice-requires cast-put-decimal put-decimal-requires same-length returns)
