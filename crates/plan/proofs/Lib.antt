@@ -6,3 +6,4 @@ pub mod OrderWords
 pub mod Sending
 pub mod Accepted
 pub mod Items
+pub mod Laid

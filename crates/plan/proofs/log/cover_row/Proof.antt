@@ -1,0 +1,13 @@
+-- `plan::log::cover_row` meets its contract.
+-- Assumes nothing.
+use mathlib.Core.Path.{refl}
+use Rattle.plan.specs.Rows.{entryRow}
+use Rattle.plan.proofs.log.cover_row.Statement.{statement}
+use Rattle.plan.proofs.log.cover_row.Tie as tie
+
+returns : tie.Need-returns
+unfolding entryRow
+returns c = refl
+
+pub cover-row-spec : {M : Type 1} → statement M
+cover-row-spec = tie.close (tie.spec returns)
