@@ -3,3 +3,4 @@ pub mod Lines
 pub mod Laid
 pub mod Listing
 pub mod Values
+pub mod Settings

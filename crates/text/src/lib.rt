@@ -2,4 +2,5 @@
 pub mod lines;
 pub mod listing;
 pub mod numbers;
+pub mod settings;
 pub mod values;

@@ -1,10 +1,13 @@
 // The values of a rehearsal's sheet, laid into a list of bytes.
 use crate::numbers::put_bytes;
 use crate::numbers::put_decimal;
+use crate::numbers::put_named;
 ghost use mathlib.Core.Bool.{cond};
+ghost use mathlib.Core.List.{_++_};
 ghost use Prim.Native.Nat.{_+_, _≤_};
 ghost use lib.ListN.{length};
 ghost use Rattle.text.specs.Laid.{Laid};
+ghost use Rattle.text.specs.Numbers.{decimalOf};
 ghost use Rattle.text.specs.Values.{secondsOf, durationText, sineText, levelText};
 
 // One of two texts.
@@ -16,6 +19,14 @@ pub(crate) fn put_choice(out: &mut [u8], at: usize, which: bool, a: &[u8], b: &[
         return put_bytes(out, at, a);
     }
     put_bytes(out, at, b)
+}
+
+// A register in decimal after its name.
+pub(crate) fn put_register(out: &mut [u8], at: usize, name: &[u8], register: u16) -> usize
+    requires { ⌜ at + length (now name) + 20 ≤ length (now out) ⌝ }
+    ensures { λ r. ⌜ Laid (now (out .entry)) at (now (name .entry) ++ decimalOf register) r (now (out .exit)) ⌝ ∗ ⌜ r ≤ at + length (now (name .entry)) + 20 ⌝ }
+{
+    put_named(out, at, name, register as u64)
 }
 
 // Ticks of 10 ms as seconds: at most 20 digits, a point and 2 digits.
