@@ -7,3 +7,4 @@ pub mod Sending
 pub mod Accepted
 pub mod Items
 pub mod Laid
+pub mod Registers

@@ -3,4 +3,5 @@ pub mod codes;
 pub mod encoding;
 pub mod log;
 pub mod order;
+pub mod settings;
 pub mod stored;
