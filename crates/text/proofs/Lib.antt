@@ -3,3 +3,4 @@ pub mod Laying
 pub mod Printing
 pub mod Ways
 pub mod Example
+pub mod Rows

@@ -4,3 +4,5 @@ pub mod Laid
 pub mod Listing
 pub mod Values
 pub mod Settings
+pub mod Acts
+pub mod Read

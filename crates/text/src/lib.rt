@@ -1,4 +1,5 @@
 // The text that the listing program prints (document 01, "Examples").
+pub mod acts;
 pub mod lines;
 pub mod listing;
 pub mod numbers;
