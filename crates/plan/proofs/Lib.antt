@@ -8,3 +8,6 @@ pub mod Accepted
 pub mod Items
 pub mod Laid
 pub mod Registers
+pub mod Walking
+pub mod Recorded
+pub mod Logging

@@ -3,5 +3,6 @@ pub mod codes;
 pub mod encoding;
 pub mod log;
 pub mod order;
+pub mod reading;
 pub mod settings;
 pub mod stored;
