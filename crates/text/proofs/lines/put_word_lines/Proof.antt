@@ -3,12 +3,12 @@
 use Prim.Native.Nat.{_-_}
 use native.Mathlib.Omega.{arith}
 use denote.Ref.{now}
-use Rattle.text.proofs.Printing.{Printing, printing-first, printing-next, printed}
+use Rattle.text.proofs.Printing.{Printing, printing-first, printing-next, printed, firstWords, no-words, words-more}
 use Rattle.text.proofs.lines.put_word_lines.Statement.{statement}
 use Rattle.text.proofs.lines.put_word_lines.Tie as tie
 
 abbrev Inv-loop : tie.InvT-loop
-Inv-loop out₀ start ticks words count at₀ i₀ out at i = Printing out₀ start ticks words count out at i
+Inv-loop out₀ start ticks words count at₀ i₀ out at i = Printing out₀ start 26 (firstWords ticks words) count out at i
 
 abbrev μ-loop : tie.MeasureT-loop
 μ-loop out₀ start ticks words count at₀ i₀ out at i = count - i
@@ -16,7 +16,7 @@ abbrev μ-loop : tie.MeasureT-loop
 loop-holds : tie.Need-loop-holds Inv-loop μ-loop
 loop-holds c =
     let a = c .before .before .before .args in
-    printing-first (now (a .out)) (a .start) (now (a .ticks)) (now (a .words)) (a .count)
+    printing-first (no-words (now (a .ticks)) (now (a .words)))
 
 mul-put-word-line : tie.Need-mul-put-word-line Inv-loop μ-loop
 mul-put-word-line c = omega arith
@@ -44,17 +44,14 @@ loop-again c =
     let a = c .before .before .before .before .before .before .before .before .before .before .before .args in
     let at = c .before .before .before .before .before .before .before .loop in
     let line = c .before .before .put-word-line in
-    printing-next (now (a .out)) (a .start) (now (a .ticks)) (now (a .words)) (a .count) (at .out) (at .at) (at .i) (at .inv) (omega arith) (omega arith) (omega arith)
-    (line .last .0) (line .result) (line .ensures .0) (line .ensures .1)
+    let more = words-more (now (a .ticks)) (now (a .words)) (at .i) (omega arith) (omega arith) in
+    printing-next (at .inv) (omega arith) more (line .ensures .0) (line .ensures .1)
 
 same-length : tie.Need-same-length Inv-loop μ-loop
 same-length c = c .before .loop .inv .long
 
 returns : tie.Need-returns Inv-loop μ-loop
-returns c =
-    let a = c .before .before .before .before .before .args in
-    let at = c .before .loop in
-    (printed (now (a .out)) (a .start) (now (a .ticks)) (now (a .words)) (a .count) (at .out) (at .at) (at .i) (at .inv) (omega arith), omega arith)
+returns c = (printed (c .before .loop .inv) (omega arith), omega arith)
 
 pub put-word-lines-spec : {M : Type 1} → statement M
 put-word-lines-spec =
