@@ -3,6 +3,7 @@
 -- Assumes nothing.
 use Prim.Native.Nat.{ℕ}
 use mathlib.Core.List.{List, [], _∷_, _++_}
+use lib.ListN.{replicate}
 use Rattle.head.specs.declared.state.Settings.{Settings}
 use Rattle.plan.specs.Reading.{Entry, exposure, request, coverMove}
 
@@ -32,11 +33,11 @@ settingsRow r =
     ∷ []
 
 -- 1 an exposure with its settings, 2 a housekeeping request, 3 a cover move with its direction, wave, sensors and steps; 0 in the
--- places that an act does not use.
+-- places that an act leaves.
 unfoldable pub entryRow : Entry → List ℕ
 entryRow (exposure r) = 1 ∷ settingsRow r
-entryRow request = 2 ∷ 0 ∷ 0 ∷ 0 ∷ 0 ∷ 0 ∷ 0 ∷ 0 ∷ 0 ∷ 0 ∷ 0 ∷ 0 ∷ 0 ∷ 0 ∷ 0 ∷ 0 ∷ 0 ∷ 0 ∷ 0 ∷ 0 ∷ 0 ∷ []
-entryRow (coverMove d w s n) = 3 ∷ d ∷ w ∷ s ∷ n ∷ 0 ∷ 0 ∷ 0 ∷ 0 ∷ 0 ∷ 0 ∷ 0 ∷ 0 ∷ 0 ∷ 0 ∷ 0 ∷ 0 ∷ 0 ∷ 0 ∷ 0 ∷ 0 ∷ []
+entryRow request = 2 ∷ replicate 20 0
+entryRow (coverMove d w s n) = 3 ∷ d ∷ w ∷ s ∷ n ∷ replicate 16 0
 
 unfoldable pub rowsOf : List Entry → List ℕ
 rowsOf [] = []

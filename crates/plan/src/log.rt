@@ -51,57 +51,21 @@ pub fn settings_row(first: u16, settings: Settings) -> [u16; 21]
 pub fn request_row() -> [u16; 21]
     ensures { λ r. ⌜ r ≡ entryRow request ⌝ }
 {
-    [
-        REQUEST,
-        0,
-        0,
-        0,
-        0,
-        0,
-        0,
-        0,
-        0,
-        0,
-        0,
-        0,
-        0,
-        0,
-        0,
-        0,
-        0,
-        0,
-        0,
-        0,
-        0,
-    ]
+    let mut row = [0u16; 21];
+    row[0] = REQUEST;
+    row
 }
 
 pub fn cover_row(direction: u16, wave: u16, sensors: u16, steps: u16) -> [u16; 21]
     ensures { λ r. ⌜ r ≡ entryRow (coverMove direction wave sensors steps) ⌝ }
 {
-    [
-        COVER_MOVE,
-        direction,
-        wave,
-        sensors,
-        steps,
-        0,
-        0,
-        0,
-        0,
-        0,
-        0,
-        0,
-        0,
-        0,
-        0,
-        0,
-        0,
-        0,
-        0,
-        0,
-        0,
-    ]
+    let mut row = [0u16; 21];
+    row[0] = COVER_MOVE;
+    row[1] = direction;
+    row[2] = wave;
+    row[3] = sensors;
+    row[4] = steps;
+    row
 }
 
 // The kth row of a record; what lies past its end is not written.

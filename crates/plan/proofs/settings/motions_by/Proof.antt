@@ -15,7 +15,7 @@ sine-register-requires c κs = search needs
 sub-settings : tie.Need-sub-settings
 sub-settings c =
     let o = c .before .args .order in
-    motor-most o (c .before .pre .1) (c .match .keys2)
+    omega (arith, motor-most o (c .before .pre .1) (c .match .keys2))
 
 returns : tie.Need-returns
 unfolding settingsBy
