@@ -4,3 +4,4 @@ pub mod Printing
 pub mod Ways
 pub mod Example
 pub mod Rows
+pub mod ActLines

@@ -2,10 +2,10 @@
 -- Assumes nothing.
 use mathlib.Core.Path.{_≡_, refl, sym, ap, _∙_}
 use mathlib.Core.List.{List, [], _∷_, _++_}
-use Prim.Native.Nat.{ℕ, zero, suc, _+_, _*_, _≤_, _<_}
+use Prim.Native.Nat.{ℕ, zero, suc, _+_, _-_, _*_, _≤_, _<_}
 use native.Mathlib.Omega.{arith}
 use borrow.Author.Tests.{eq-eqb, ne-eqb}
-use lib.ListN.{length, getD, take, drop}
+use lib.ListN.{length, getD, take, drop, length-take, length-drop}
 use lib.Seq.{drop-drop}
 use Rattle.plan.specs.Reading.{Entry, exposure, request, coverMove}
 use Rattle.text.specs.Read.{rowAt, rowSettings, rowEntry, entriesIn}
@@ -39,3 +39,14 @@ entry-at (suc n) rows (suc i) h =
     let further : 21 + 21 * i ≡ 21 * suc i = omega arith in
     entry-at n (drop 21 rows) i (omega arith)
     ∙ ap (λ (l : List ℕ). rowEntry (take 21 l)) (drop-drop (21 * i) 21 rows ∙ ap (λ (k : ℕ). drop k rows) further)
+
+-- the part of a record that is a row
+module _ (rows : List ℕ) (k : ℕ) where
+  pub part-row : take (21 * k + 21 - 21 * k) (drop (21 * k) rows) ≡ rowAt rows k
+  unfolding rowAt
+  part-row =
+      let wide : 21 * k + 21 - 21 * k ≡ 21 = omega arith in
+      ap (λ (n : ℕ). take n (drop (21 * k) rows)) wide
+
+  pub part-long : 21 * k + 21 ≤ length rows → length (take (21 * k + 21 - 21 * k) (drop (21 * k) rows)) ≡ 21
+  part-long room = simp (length-take, length-drop) (omega arith)

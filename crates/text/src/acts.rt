@@ -9,13 +9,14 @@ use crate::values::put_seconds;
 use head::state::Settings;
 use plan::log::EXPOSURE;
 use plan::log::REQUEST;
+use plan::log::ROW;
 ghost use mathlib.Core.Path.{_≡_};
-ghost use Prim.Native.Nat.{_+_, _≤_};
-ghost use lib.ListN.{length};
+ghost use Prim.Native.Nat.{_+_, _*_, _≤_};
+ghost use lib.ListN.{length, take};
 ghost use Rattle.plan.specs.Reading.{exposure};
 ghost use Rattle.text.specs.Laid.{Laid};
-ghost use Rattle.text.specs.Acts.{coverText, entryText, tickText, actLine};
-ghost use Rattle.text.specs.Read.{rowSettings, rowEntry};
+ghost use Rattle.text.specs.Acts.{coverText, entryText, tickText, actLine, actLines};
+ghost use Rattle.text.specs.Read.{rowSettings, rowEntry, entriesIn};
 
 // The twenty registers of a row.
 pub(crate) fn settings_of(row: &[u16]) -> Settings
@@ -126,4 +127,26 @@ fn put_act_line(out: &mut [u8], at: usize, number: usize, tick: u32, row: &[u16]
     let entry = put_tick(out, after_number, tick);
     let after_entry = put_entry(out, entry, row);
     put_bytes(out, after_entry, b"\n")
+}
+
+// A line for each of the first acts, by their rows.
+pub(crate) fn put_act_lines(
+    out: &mut [u8],
+    start: usize,
+    rows: &[u16],
+    times: &[u32],
+    acts: usize,
+) -> usize
+    requires { ⌜ 21 * acts ≤ length (now rows) ⌝ ∗ ⌜ acts ≤ length (now times) ⌝ ∗ ⌜ start + 840 * acts ≤ length (now out) ⌝ }
+    ensures { λ r. ⌜ Laid (now (out .entry)) start (actLines 1 (take acts (now (times .entry))) (entriesIn acts (now (rows .entry)))) r (now (out .exit)) ⌝ ∗ ⌜ r ≤ start + 840 * acts ⌝ }
+{
+    let mut at = start;
+    let mut i: usize = 0;
+    while i < acts {
+        let from = ROW * i;
+        let to = from + ROW;
+        at = put_act_line(out, at, i + 1, times[i], &rows[from..to]);
+        i = i + 1;
+    }
+    at
 }
