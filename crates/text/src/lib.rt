@@ -4,4 +4,5 @@ pub mod lines;
 pub mod listing;
 pub mod numbers;
 pub mod settings;
+pub mod sheet;
 pub mod values;
