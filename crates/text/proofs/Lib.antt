@@ -5,3 +5,4 @@ pub mod Ways
 pub mod Example
 pub mod Rows
 pub mod ActLines
+pub mod ReadBack
