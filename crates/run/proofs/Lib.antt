@@ -5,3 +5,4 @@ pub mod Whole
 pub mod Accepted
 pub mod Rehearsing
 pub mod Rehearsal
+pub mod Acting

@@ -6,6 +6,7 @@ use mathlib.Core.Bool.{cond}
 use mathlib.Core.List.{List, [], _∷_, _++_}
 use mathlib.Core.Option.{Option, none, some}
 use lib.Dec.{eqb}
+use lib.ListN.{length, replicate}
 use Rattle.words.specs.Fields.{direction, wave, sensors, steps}
 use Rattle.head.specs.Word.{answerOf}
 use Rattle.head.specs.Tick.{tickOf}
@@ -61,3 +62,8 @@ momentLog m = elim (m .given) [ none ↦ [] | some w ↦ entriesOf (m .head .set
 unfoldable pub logOf : List Moment → List Entry
 logOf [] = []
 logOf (m ∷ ms) = momentLog m ++ logOf ms
+
+-- The tick of each entry of the log, where the first moment is at tick t.
+unfoldable pub timesOf : ℕ → List Moment → List ℕ
+timesOf t [] = []
+timesOf t (m ∷ ms) = replicate (length (momentLog m)) t ++ timesOf (t + 1) ms

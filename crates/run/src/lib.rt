@@ -1,6 +1,7 @@
 // A translated plan run on the head (demand 3).
 use head::state::Head;
 
+pub mod acts;
 pub mod rehearse;
 
 // What rehearsing a plan answers.
