@@ -13,10 +13,12 @@ use Rattle.plan.specs.Stored.{Plan, orders, refused, planOf, ordersIn}
 use Rattle.plan.specs.Words.{itemsOfAll}
 use Rattle.plan.specs.declared.order.Order.{Order}
 use Rattle.plan.proofs.Accepted.{accepted-fit, accepted-few}
+use Rattle.plan.proofs.Logging.{log-few}
 use Rattle.schedule.specs.Schedule.{Timed, Schedule, scheduleFrom, Rising}
 use Rattle.schedule.specs.Translate.{fit, scheduleOf, answerOfPlan, translateOf, filled, tickList, wordList}
 use Rattle.schedule.specs.declared.Translated.the-variants.{Done, Short}
 use Rattle.schedule.proofs.Plans.{plan-earliest, plan-rising, plan-count, plan-end}
+use Rattle.run.specs.Run.{momentsOf, logOf}
 use Rattle.run.specs.Claim.{paired, Demands}
 use Rattle.run.proofs.Whole.{run-whole}
 
@@ -81,6 +83,9 @@ module _ (s : Head) (bs W T W' T' : List ℕ) (n e : ℕ)
   unfolding scheduleOf
   translated-schedule = ap (scheduleOf s) (done .accepted)
 
+  pub translated-end : e ≡ scheduleOf s (planOf bs) .end
+  translated-end = done .end
+
   -- a buffer that was filled with a number of each timed word
   module _ (f : Timed → ℕ) (old new : List ℕ) (is : new ≡ filled (Done n e) (map f (scheduleOf s (planOf bs) .list)) old) where
     abbrev values : List ℕ
@@ -112,6 +117,12 @@ module _ (s : Head) (bs W T W' T' : List ℕ) (n e : ℕ)
   translated-demands =
       rw (translated-list, done .end)
       (schedule-demands s bs (ordersIn (planOf bs)) translated-fit (done .accepted) (scheduleOf s (planOf bs)) translated-schedule n (done .count))
+
+  -- at most one act an order, so at most 64
+  pub translated-acts : length (logOf (momentsOf e 0 (paired (take n T') (take n W')) s)) ≤ 64
+  translated-acts =
+      let os = ordersIn (planOf bs) in
+      omega (arith, ap length (translated-demands .run .log), log-few (s .settings) os, translated-demands .few)
 
   pub translated-rising : Rising 0 (paired (take n T') (take n W')) e
   translated-rising =

@@ -3,6 +3,7 @@ pub mod Meaning
 pub mod Quiet
 pub mod Whole
 pub mod Accepted
+pub mod NextWord
 pub mod Rehearsing
 pub mod Rehearsal
 pub mod Acting

@@ -2,13 +2,14 @@
 -- Assumes nothing.
 use mathlib.Core.Path.{_≡_, refl}
 use mathlib.Core.Bool.{true}
-use mathlib.Core.List.{List, _++_}
+use mathlib.Core.List.{List, [], _∷_, _++_}
 use mathlib.Core.Option.{Option, none, some}
-use Prim.Native.Nat.{ℕ, zero, suc}
-use native.Mathlib.Nat.{zero-sub}
+use Prim.Native.Nat.{ℕ, zero, suc, _+_}
+use native.Mathlib.Nat.{zero-sub, add-zero}
 use native.Mathlib.Omega.{arith}
 use borrow.Author.Tests.{eqb-true}
 use lib.Dec.{eqb}
+use lib.ListN.{length, replicate, length-append, length-replicate}
 use Rattle.words.proofs.Tests.{and-left, and-right}
 use Rattle.head.specs.Range.{inRange}
 use Rattle.head.specs.Tick.{tickOf, ticksOf}
@@ -19,7 +20,7 @@ use Rattle.head.proofs.Ticks.{ticks-settings}
 use Rattle.schedule.specs.Earliest.{atRest}
 use Rattle.schedule.specs.Schedule.{Timed}
 use Rattle.schedule.proofs.Ready.{ticks-motion}
-use Rattle.run.specs.Run.{Moment, momentLog, logOf, momentsOf, headAfter}
+use Rattle.run.specs.Run.{Moment, momentLog, logOf, timesOf, momentsOf, headAfter}
 use Rattle.run.specs.Claim.{givenIn, AllObeyed, Resting, Held, StartsHeld}
 use Rattle.run.proofs.Segments.{quiet}
 
@@ -27,11 +28,32 @@ use Rattle.run.proofs.Segments.{quiet}
 nothing : {A : Type 0} (w : ℕ) → _≡_ {A = Option ℕ} none (some w) → A
 nothing w e = let z : _≡_ {A = ℕ} 0 1 = cc in absurd (omega arith)
 
+-- each entry of the log has its tick
+pub times-long : (t : ℕ) (ms : List Moment) → length (timesOf t ms) ≡ length (logOf ms)
+unfolding timesOf logOf
+times-long t [] = refl
+times-long t (m ∷ ms) =
+    let n = length (momentLog m) in
+    omega (
+      arith,
+      length-append (replicate n t) (timesOf (t + 1) ms),
+      length-replicate n t,
+      length-append (momentLog m) (logOf ms),
+      times-long (t + 1) ms,
+    )
+
 module _ (ms : List Moment) where
   pub quiet-log : (n : ℕ) (s : Head) → logOf (quiet n s ++ ms) ≡ logOf ms
   unfolding quiet logOf momentLog
   quiet-log zero s = refl
   quiet-log (suc n) s = quiet-log n (tickOf s .head)
+
+  pub quiet-times : (n t : ℕ) (s : Head) → timesOf t (quiet n s ++ ms) ≡ timesOf (t + n) ms
+  unfolding quiet timesOf momentLog
+  quiet-times zero t s = rw (add-zero t)
+  quiet-times (suc n) t s =
+      let at : t + 1 + n ≡ t + suc n = omega arith in
+      rw (← at) (quiet-times n (t + 1) (tickOf s .head))
 
   pub quiet-given : (n : ℕ) (s : Head) → givenIn (quiet n s ++ ms) ≡ givenIn ms
   unfolding quiet givenIn

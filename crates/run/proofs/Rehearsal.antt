@@ -1,42 +1,58 @@
 -- The ways through `rehearse`, and what its answer says of the head.
 -- Assumes nothing.
 use mathlib.Core.Path.{_≡_, refl, ap, _∙_}
-use mathlib.Core.List.{List}
+use mathlib.Core.List.{List, _++_}
 use Prim.Native.Nat.{ℕ, _≤_}
-use lib.ListN.{length, take}
+use native.Mathlib.Omega.{arith}
+use lib.ListN.{length, take, drop}
+use lib.Seq.{sets}
 use Rattle.head.specs.declared.state.Head.{Head}
 use Rattle.plan.specs.Reading.{settingsRead}
+use Rattle.plan.specs.Read.{atFront}
+use Rattle.plan.specs.Rows.{recordOf}
 use Rattle.plan.specs.Stored.{planOf, ordersIn}
-use Rattle.schedule.specs.Schedule.{Timed, Rising}
+use Rattle.plan.proofs.Laid.{sets-front}
+use Rattle.plan.proofs.Recorded.{record-front}
+use Rattle.schedule.specs.Schedule.{Timed, Schedule, Rising}
 use Rattle.schedule.specs.Translate.{scheduleOf, filled, tickList, wordList}
 use Rattle.schedule.specs.declared.Translated.{Translated}
 use Rattle.schedule.proofs.Translating.{Told}
-use Rattle.run.specs.Run.{headAfter}
+use Rattle.run.specs.Run.{momentsOf, headAfter, logOf, timesOf}
 use Rattle.run.specs.Claim.{paired}
-use Rattle.run.specs.Rehearse.{rehearsedBy, rehearseOf, translationOf, Fulfilled}
+use Rattle.run.specs.Rehearse.{rehearsedBy, rehearseOf, translationOf, runRecord, runTimes, Fulfilled}
 use Rattle.run.specs.declared.Rehearsed.{Rehearsed}
-use Rattle.run.proofs.Accepted.{room-words, room-ticks, translated-list, translated-rising, translated-demands}
+use Rattle.run.proofs.Quiet.{times-long}
+use Rattle.run.proofs.Accepted.{room-words, room-ticks, translated-list, translated-end, translated-acts, translated-rising, translated-demands}
 
 -- the promises of `rehearse`, for an answer and the buffers as they came back
-abbrev Answers : Head → List ℕ → List ℕ → List ℕ → Rehearsed → List ℕ → List ℕ → Type 0
-Answers s bs W T r W' T' =
+abbrev pub Answers : Head → List ℕ → List ℕ → List ℕ → List ℕ → List ℕ → Rehearsed → List ℕ → List ℕ → List ℕ → List ℕ → Type 0
+Answers s bs W T R A r W' T' R' A' =
+    let sch = scheduleOf s (planOf bs) in
     (r ≡ rehearseOf s bs (length W) (length T))
-    × ((W' ≡ filled (translationOf r) (wordList (scheduleOf s (planOf bs))) W)
-    × ((T' ≡ filled (translationOf r) (tickList (scheduleOf s (planOf bs))) T)
-    × Fulfilled s bs W' T' r))
+    × ((W' ≡ filled (translationOf r) (wordList sch) W)
+    × ((T' ≡ filled (translationOf r) (tickList sch) T)
+    × ((R' ≡ filled (translationOf r) (runRecord s sch) R)
+    × ((A' ≡ filled (translationOf r) (runTimes s sch) A)
+    × Fulfilled s bs W' T' r))))
 
-module _ (s : Head) (bs W T : List ℕ) {W' T' : List ℕ} {r : Translated} (told : Told s bs W T r W' T') where
-  pub way-refused : {n p : ℕ} → r ≡ Translated.Refused n p → Answers s bs W T (Rehearsed.Refused n p) W' T'
-  unfolding rehearseOf rehearsedBy translationOf Fulfilled
-  way-refused is = let t = rw is at told in (rw (← (t .0)) refl, (t .1 .0, (t .1 .1, tt)))
+module _ (s : Head) (bs W T R A : List ℕ) {W' T' : List ℕ} {r : Translated} (told : Told s bs W T r W' T') where
+  pub way-refused : {n p : ℕ} → r ≡ Translated.Refused n p → Answers s bs W T R A (Rehearsed.Refused n p) W' T' R A
+  unfolding rehearseOf rehearsedBy translationOf filled Fulfilled
+  way-refused is = let t = rw is at told in (rw (← (t .0)) refl, (t .1 .0, (t .1 .1, (refl, (refl, tt)))))
 
-  pub way-short : {n : ℕ} → r ≡ Translated.Short n → Answers s bs W T (Rehearsed.Short n) W' T'
-  unfolding rehearseOf rehearsedBy translationOf Fulfilled
-  way-short is = let t = rw is at told in (rw (← (t .0)) refl, (t .1 .0, (t .1 .1, tt)))
+  pub way-short : {n : ℕ} → r ≡ Translated.Short n → Answers s bs W T R A (Rehearsed.Short n) W' T' R A
+  unfolding rehearseOf rehearsedBy translationOf filled Fulfilled
+  way-short is = let t = rw is at told in (rw (← (t .0)) refl, (t .1 .0, (t .1 .1, (refl, (refl, tt)))))
 
   module _ {n e : ℕ} (is : r ≡ Translated.Done n e) where
     done : Told s bs W T (Translated.Done n e) W' T'
     done = rw is at told
+
+    abbrev list : List Timed
+    list = paired (take n T') (take n W')
+
+    abbrev sch : Schedule
+    sch = scheduleOf s (planOf bs)
 
     pub way-words : n ≤ length W'
     way-words = room-words s bs W T W' T' n e (done .0) (done .1 .0) (done .1 .1)
@@ -47,17 +63,73 @@ module _ (s : Head) (bs W T : List ℕ) {W' T' : List ℕ} {r : Translated} (tol
     pub way-rising : Rising 0 (paired (take n T') (take n W')) e
     way-rising = translated-rising s bs W T W' T' n e (done .0) (done .1 .0) (done .1 .1)
 
-    pub way-done : {h : Head} → h ≡ headAfter e 0 (paired (take n T') (take n W')) s → Answers s bs W T (Rehearsed.Done h n e) W' T'
-    unfolding rehearseOf rehearsedBy translationOf Fulfilled
-    way-done ran =
-        let list = translated-list s bs W T W' T' n e (done .0) (done .1 .0) (done .1 .1) in
-        let end = ran ∙ ap (λ (l : List Timed). headAfter e 0 l s) list in (
-          ap (λ (x : Head). Rehearsed.Done x n e) end ∙ ap (rehearsedBy s (scheduleOf s (planOf bs))) (done .0),
-          (done .1 .0, (done .1 .1, (ran, translated-demands s bs W T W' T' n e (done .0) (done .1 .0) (done .1 .1)))),
-        )
+    pub way-acts : length (logOf (momentsOf e 0 (paired (take n T') (take n W')) s)) ≤ 64
+    way-acts = translated-acts s bs W T W' T' n e (done .0) (done .1 .0) (done .1 .1)
+
+    same : list ≡ sch .list
+    same = translated-list s bs W T W' T' n e (done .0) (done .1 .0) (done .1 .1)
+
+    end : e ≡ sch .end
+    end = translated-end s bs W T W' T' n e (done .0) (done .1 .0) (done .1 .1)
+
+    -- what was laid is the run's record and ticks, and there was room for them
+    rows-are : recordOf (logOf (momentsOf e 0 list s)) (headAfter e 0 list s .settings) ≡ runRecord s sch
+    unfolding runRecord
+    rows-are = rw (same, end)
+
+    times-are : timesOf 0 (momentsOf e 0 list s) ≡ runTimes s sch
+    unfolding runTimes
+    times-are = rw (same, end)
+
+    way-rows : {R' : List ℕ} → length R ≡ 1365
+        → R' ≡ sets R 0 (recordOf (logOf (momentsOf e 0 list s)) (headAfter e 0 list s .settings))
+        → R' ≡ filled (Translated.Done n e) (runRecord s sch) R
+    unfolding filled atFront
+    way-rows long laid =
+        laid
+        ∙ record-front (logOf (momentsOf e 0 list s)) (headAfter e 0 list s .settings) R (omega (arith, way-acts))
+        ∙ ap (λ (v : List ℕ). v ++ drop (length v) R) rows-are
+
+    way-times : {A' : List ℕ} → length A ≡ 64 → A' ≡ sets A 0 (timesOf 0 (momentsOf e 0 list s))
+        → A' ≡ filled (Translated.Done n e) (runTimes s sch) A
+    unfolding filled
+    way-times long laid =
+        let ms = momentsOf e 0 list s in
+        laid
+        ∙ sets-front (timesOf 0 ms) A (omega (arith, times-long 0 ms, way-acts))
+        ∙ ap (λ (v : List ℕ). v ++ drop (length v) A) times-are
+
+    module _ (longRows : length R ≡ 1365) (longTimes : length A ≡ 64) where
+      pub way-done : {h : Head} {a : ℕ} {R' A' : List ℕ}
+          → (h ≡ headAfter e 0 (paired (take n T') (take n W')) s)
+          × ((a ≡ length (logOf (momentsOf e 0 (paired (take n T') (take n W')) s)))
+          × ((R' ≡ sets R 0 (recordOf (logOf (momentsOf e 0 (paired (take n T') (take n W')) s)) (headAfter e 0 (paired (take n T') (take n W')) s .settings)))
+          × (A' ≡ sets A 0 (timesOf 0 (momentsOf e 0 (paired (take n T') (take n W')) s)))))
+          → Answers s bs W T R A (Rehearsed.Done h n e a) W' T' R' A'
+      unfolding rehearseOf rehearsedBy translationOf Fulfilled
+      way-done {a = a} ran =
+          let head = ran .0 ∙ ap (λ (l : List Timed). headAfter e 0 l s) same in
+          let acts = ran .1 .0 ∙ ap (λ (l : List Timed). length (logOf (momentsOf e 0 l s))) same in (
+            ap (λ (x : Head). Rehearsed.Done x n e a) head
+                ∙ ap (λ (k : ℕ). Rehearsed.Done (headAfter e 0 (sch .list) s) n e k) acts
+                ∙ ap (rehearsedBy s sch) (done .0),
+            (
+              done .1 .0,
+              (
+                done .1 .1,
+                (
+                  way-rows longRows (ran .1 .1 .0),
+                  (
+                    way-times longTimes (ran .1 .1 .1),
+                    (ran .0, translated-demands s bs W T W' T' n e (done .0) (done .1 .0) (done .1 .1)),
+                  ),
+                ),
+              ),
+            ),
+          )
 
 -- where `rehearse` answers a head, its settings are those that the plan, read without any words, says
-pub rehearsed-settings : (s : Head) (bs W' T' : List ℕ) (h : Head) (n e : ℕ) → Fulfilled s bs W' T' (Rehearsed.Done h n e)
+pub rehearsed-settings : (s : Head) (bs W' T' : List ℕ) (h : Head) (n e a : ℕ) → Fulfilled s bs W' T' (Rehearsed.Done h n e a)
     → h .settings ≡ settingsRead (s .settings) (ordersIn (planOf bs))
 unfolding Fulfilled
-rehearsed-settings s bs W' T' h n e f = ap (λ (x : Head). x .settings) (f .0) ∙ f .1 .run .settings
+rehearsed-settings s bs W' T' h n e a f = ap (λ (x : Head). x .settings) (f .0) ∙ f .1 .run .settings

@@ -3,19 +3,33 @@
 use Prim.Native.Nat.{ℕ}
 use mathlib.Core.Path.{_≡_}
 use mathlib.Core.List.{List}
-use lib.ListN.{take}
+use lib.ListN.{length, take}
 use Rattle.head.specs.declared.state.Head.{Head}
+use Rattle.plan.specs.Rows.{recordOf}
 use Rattle.plan.specs.Stored.{planOf, ordersIn}
 use Rattle.schedule.specs.Schedule.{Schedule}
 use Rattle.schedule.specs.Translate.{scheduleOf, translateOf}
 use Rattle.schedule.specs.declared.Translated.{Translated}
-use Rattle.run.specs.Run.{headAfter}
+use Rattle.run.specs.Run.{Moment, momentsOf, headAfter, logOf, timesOf}
 use Rattle.run.specs.Claim.{paired, Demands}
 use Rattle.run.specs.declared.Rehearsed.{Rehearsed}
 
--- The head after the schedule, where there is one; the translation's answer otherwise.
+-- The moments of a head under a schedule, from tick 0 to its end.
+abbrev pub runOf : Head → Schedule → List Moment
+runOf s sch = momentsOf (sch .end) 0 (sch .list) s
+
+-- What the head then did, as rows: its log, and its settings at the end.
+unfoldable pub runRecord : Head → Schedule → List ℕ
+runRecord s sch = recordOf (logOf (runOf s sch)) (headAfter (sch .end) 0 (sch .list) s .settings)
+
+-- The tick of each act.
+unfoldable pub runTimes : Head → Schedule → List ℕ
+runTimes s sch = timesOf 0 (runOf s sch)
+
+-- The head after the schedule and the number of its acts, where there is one; the translation's answer otherwise.
 unfoldable pub rehearsedBy : Head → Schedule → Translated → Rehearsed
-rehearsedBy s sch (Translated.Done n e) = Rehearsed.Done (headAfter e 0 (sch .list) s) n e
+rehearsedBy s sch (Translated.Done n e) =
+    Rehearsed.Done (headAfter e 0 (sch .list) s) n e (length (logOf (momentsOf e 0 (sch .list) s)))
 rehearsedBy s sch (Translated.Refused n p) = Rehearsed.Refused n p
 rehearsedBy s sch (Translated.Short n) = Rehearsed.Short n
 
@@ -25,14 +39,14 @@ rehearseOf s bs a b = rehearsedBy s (scheduleOf s (planOf bs)) (translateOf s bs
 
 -- The translation's answer in a rehearsal's; its number and place are the translation's.
 unfoldable pub translationOf : Rehearsed → Translated
-translationOf (Rehearsed.Done h n e) = Translated.Done n e
+translationOf (Rehearsed.Done h n e a) = Translated.Done n e
 translationOf (Rehearsed.Refused n p) = Translated.Refused n p
 translationOf (Rehearsed.Short n) = Translated.Short n
 
 -- Where the answer is a head, W and T hold the words and ticks by which the plan keeps demands 2 and 3, and the head is the one at the end
 -- of that run.
 unfoldable pub Fulfilled : Head → List ℕ → List ℕ → List ℕ → Rehearsed → Type 0
-Fulfilled s bs W T (Rehearsed.Done h n e) =
+Fulfilled s bs W T (Rehearsed.Done h n e a) =
     (h ≡ headAfter e 0 (paired (take n T) (take n W)) s) × Demands s bs (ordersIn (planOf bs)) (paired (take n T) (take n W)) n e
 Fulfilled s bs W T (Rehearsed.Refused n p) = Unit {0}
 Fulfilled s bs W T (Rehearsed.Short n) = Unit {0}

@@ -6,10 +6,20 @@ pub mod rehearse;
 
 // What rehearsing a plan answers.
 pub enum Rehearsed {
-    // The head at the end, the number of words, and the tick at which the plan ends.
-    Done { head: Head, count: usize, end: u32 },
+    // The head at the end, the number of words, the tick at which the plan ends, and the number of acts.
+    Done {
+        head: Head,
+        count: usize,
+        end: u32,
+        acts: usize,
+    },
     // The number of document 01's refusal table, and the byte place.
-    Refused { number: u8, place: usize },
+    Refused {
+        number: u8,
+        place: usize,
+    },
     // Refusal 10: a buffer is shorter than the number of words, which is given.
-    Short { count: usize },
+    Short {
+        count: usize,
+    },
 }

@@ -1,6 +1,8 @@
 -- `run::rehearse::rehearse` meets its contract: each way through the code is a law of `Rehearsal`.
 -- Assumes nothing.
-use Rattle.run.proofs.Rehearsal.{way-words, way-ticks, way-rising, way-done, way-refused, way-short}
+use mathlib.Core.List.{[]}
+use native.Mathlib.Omega.{arith}
+use Rattle.run.proofs.Rehearsal.{way-words, way-ticks, way-rising, way-acts, way-done, way-refused, way-short}
 use borrow.Author.Needs.{needs}
 use Rattle.run.proofs.rehearse.rehearse.Statement.{statement}
 use Rattle.run.proofs.rehearse.rehearse.Tie as tie
@@ -13,12 +15,12 @@ enum-known-answer c = search needs
 
 run-words-requires : tie.Need-run-words-requires
 run-words-requires c κs =
-    let t = c .before .before .before .before .before .before .before .before .before .translate in
-    let d = c .before .before .before .answer .given in (
-      way-words _ _ _ _ (t .ensures) (d .1),
+    let t = c .before .before .before .before .before .before .before .before .before .before .before .translate .ensures in
+    let d = c .before .before .before .before .before .answer .given .1 in (
+      way-words _ _ _ _ [] [] t d,
       (
-        way-ticks _ _ _ _ (t .ensures) (d .1),
-        way-rising _ _ _ _ (t .ensures) (d .1),
+        way-ticks _ _ _ _ [] [] t d,
+        (way-rising _ _ _ _ [] [] t d, omega (arith, c .run-words-arg4 .given .0 .1, way-acts _ _ _ _ [] [] t d)),
       ),
     )
 
@@ -36,9 +38,9 @@ same-length-2 c = search needs
 
 returns : tie.Need-returns
 returns c =
-    let t = c .before .before .before .before .before .before .before .before .before .before .translate in
-    let d = c .before .before .before .before .answer .given in
-    way-done _ _ _ _ (t .ensures) (d .1) (c .run-words .ensures)
+    let t = c .before .before .before .before .before .before .before .before .before .before .before .before .before .translate .ensures in
+    let d = c .before .before .before .before .before .before .before .answer .given .1 in
+    way-done _ _ _ _ _ _ t d (c .before .before .before .run-words-arg3 .given .0 .1) (c .before .before .run-words-arg4 .given .0 .1) (c .before .run-words .ensures)
 
 same-length-3 : tie.Need-same-length-3
 same-length-3 c = search needs
@@ -47,10 +49,7 @@ same-length-4 : tie.Need-same-length-4
 same-length-4 c = search needs
 
 returns-2 : tie.Need-returns-2
-returns-2 c =
-    let t = c .before .before .before .before .before .before .before .translate in
-    let d = c .before .answer2 .given in
-    way-refused _ _ _ _ (t .ensures) (d .1)
+returns-2 c = way-refused _ _ _ _ _ _ (c .before .before .before .before .before .before .before .translate .ensures) (c .before .answer2 .given .1)
 
 same-length-5 : tie.Need-same-length-5
 same-length-5 c = search needs
@@ -59,10 +58,7 @@ same-length-6 : tie.Need-same-length-6
 same-length-6 c = search needs
 
 returns-3 : tie.Need-returns-3
-returns-3 c =
-    let t = c .before .before .before .before .before .before .before .translate in
-    let d = c .before .answer3 .given in
-    way-short _ _ _ _ (t .ensures) (d .1)
+returns-3 c = way-short _ _ _ _ _ _ (c .before .before .before .before .before .before .before .translate .ensures) (c .before .answer3 .given .1)
 
 pub rehearse-spec : {M : Type 1} → statement M
 rehearse-spec =
