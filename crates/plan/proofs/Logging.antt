@@ -21,7 +21,7 @@ use Rattle.plan.specs.declared.stored.Judged.{Judged}
 use Rattle.plan.specs.declared.reading.Read.{Read}
 use Rattle.plan.specs.declared.reading.Read.the-variants.{Accepted, Refused}
 use Rattle.plan.proofs.Accepted.{judged-accepted, judged-refused, accepted-few}
-use Rattle.plan.proofs.Recorded.{record-next, record-last, record-front}
+use Rattle.plan.proofs.Recorded.{record-long, record-next, record-last, record-front}
 use Rattle.plan.proofs.Walking.{Walking, walking-first, walking-order, walking-sound, walking-next}
 
 -- the act of an order, by its code
@@ -136,6 +136,18 @@ module _ {rows₀ bs : List ℕ} {os : List Order} {count : ℕ} {start : Settin
           w
           ∙ sym (h .sameRows ∙ ap (λ (l : List Order). sets rows (21 * acts) (readFrom settings l)) none ∙ record-last rows acts settings)
 
+-- a record has room for every accepted plan
+log-room : (r : Settings) (bs : List ℕ) (os : List Order) → planOf bs ≡ orders os → 21 * length (logRead r os) + 21 ≤ 1365
+log-room r bs os e = omega (arith, log-few r os, accepted-few bs os e)
+
+pub read-room : (r : Settings) (bs : List ℕ) → length (readRecord r (planOf bs)) ≤ 1365
+unfolding readRecord
+read-room r bs = go (planOf bs) refl
+  where
+    go : (p : Plan) → planOf bs ≡ p → length (readRecord r p) ≤ 1365
+    go (orders os) e = omega (arith, record-long (logRead r os) (settingsRead r os), log-room r bs os e)
+    go (refused n q) e = omega arith
+
 -- the ways through `read_plan`
 abbrev Answers : Settings → List ℕ → List ℕ → Read → List ℕ → Type 0
 Answers r bs rows answer rows' = (answer ≡ readOf r (planOf bs)) × (rows' ≡ atFront (readRecord r (planOf bs)) rows)
@@ -148,7 +160,7 @@ module _ (r : Settings) (bs rows : List ℕ) where
   way-read {n} is room count laid =
       let os = ordersIn (planOf bs) in
       let read = judged-accepted (planOf bs) n is in
-      let most : 21 * length (logRead r os) + 21 ≤ length rows = omega (arith, log-few r os, accepted-few bs os read) in (
+      let most : 21 * length (logRead r os) + 21 ≤ length rows = omega (arith, log-room r bs os read) in (
         ap Accepted count ∙ ap (readOf r) (sym read),
         laid ∙ record-front (logRead r os) (settingsRead r os) rows most ∙ ap (λ (p : Plan). atFront (readRecord r p) rows) (sym read),
       )

@@ -4,7 +4,7 @@ use mathlib.Core.Path.{_≡_, refl, sym, ap, _∙_}
 use mathlib.Core.List.{List, [], _∷_, _++_, append-assoc, append-nil}
 use Prim.Native.Nat.{ℕ, _+_, _*_, _≤_}
 use native.Mathlib.Omega.{arith}
-use lib.ListN.{length, drop, length-append}
+use lib.ListN.{length, drop, length-append, length-drop}
 use lib.Seq.{sets}
 use Rattle.head.specs.declared.state.Settings.{Settings}
 use Rattle.plan.specs.Reading.{Entry, exposure, request, coverMove}
@@ -63,3 +63,7 @@ pub record-front : (es : List Entry) (r : Settings) (rows : List ℕ) → 21 * l
     → sets rows 0 (recordOf es r) ≡ atFront (recordOf es r) rows
 unfolding atFront
 record-front es r rows h = sets-front (recordOf es r) rows (rw (record-long es r) h)
+
+pub front-long : (values old : List ℕ) → length values ≤ length old → length (atFront values old) ≡ length old
+unfolding atFront
+front-long values old h = omega (arith, length-append values (drop (length values) old), length-drop (length values) old)

@@ -7,3 +7,6 @@ pub mod NextWord
 pub mod Rehearsing
 pub mod Rehearsal
 pub mod Acting
+pub mod Comparing
+pub mod Agreeing
+pub mod Comparison

@@ -1,3 +1,4 @@
 pub mod Run
 pub mod Claim
 pub mod Rehearse
+pub mod Compare

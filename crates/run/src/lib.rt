@@ -2,6 +2,7 @@
 use head::state::Head;
 
 pub mod acts;
+pub mod compare;
 pub mod rehearse;
 
 // What rehearsing a plan answers.

@@ -1,0 +1,112 @@
+-- The ways through `compare`.
+-- Assumes nothing.
+use mathlib.Core.Path.{_≡_, refl, sym, ap, _∙_}
+use mathlib.Core.Bool.{Bool}
+use mathlib.Core.List.{List}
+use Prim.Native.Nat.{ℕ, _+_, _*_, _≤_}
+use native.Mathlib.Omega.{arith}
+use lib.ListN.{length, take, drop}
+use lib.Seq.{take-at}
+use Rattle.head.specs.declared.state.Head.{Head}
+use Rattle.plan.specs.Read.{readRecord}
+use Rattle.plan.specs.Stored.{planOf}
+use Rattle.plan.proofs.Recorded.{record-long}
+use Rattle.schedule.specs.Schedule.{Timed, Schedule}
+use Rattle.schedule.specs.Translate.{scheduleOf, translateOf, filled, tickList, wordList}
+use Rattle.schedule.specs.declared.Translated.{Translated}
+use Rattle.run.specs.Run.{momentsOf, headAfter, logOf}
+use Rattle.run.specs.Rehearse.{rehearsedBy, rehearseOf, translationOf, runOf, runRecord, runTimes}
+use Rattle.run.specs.Compare.{same, room, comparedBy, comparedOf}
+use Rattle.run.specs.declared.Rehearsed.{Rehearsed}
+use Rattle.run.specs.declared.compare.Compared.{Compared}
+use Rattle.run.proofs.Accepted.{translated-list, translated-end, translated-acts}
+use Rattle.run.proofs.Rehearsal.{Answers}
+
+-- the translation's answer, and the number of acts, in a rehearsal's
+translation-back : (s : Head) (sch : Schedule) (t : Translated) → translationOf (rehearsedBy s sch t) ≡ t
+unfolding translationOf rehearsedBy
+translation-back s sch (Translated.Done n e) = refl
+translation-back s sch (Translated.Refused n p) = refl
+translation-back s sch (Translated.Short n) = refl
+
+acts-back : (s : Head) (sch : Schedule) (h : Head) (n e a : ℕ) → Rehearsed.Done h n e a ≡ rehearsedBy s sch (Translated.Done n e)
+    → a ≡ length (logOf (momentsOf e 0 (sch .list) s))
+unfolding rehearsedBy
+acts-back s sch h n e a is = cc
+
+-- the promises of `compare`, for an answer and the buffers as they came back
+abbrev Promised : Head → List ℕ → List ℕ → List ℕ → Compared → List ℕ → List ℕ → Type 0
+Promised s bs R A c R' A' =
+    let sch = scheduleOf s (planOf bs) in
+    (c ≡ comparedOf s bs)
+    × ((R' ≡ filled (translateOf s bs room room) (runRecord s sch) R) × (A' ≡ filled (translateOf s bs room room) (runTimes s sch) A))
+
+module _ (s : Head) (bs W T R A : List ℕ) (longW : length W ≡ 256) (longT : length T ≡ 256)
+    {W' T' R' A' : List ℕ} {r : Rehearsed} (ran : Answers s bs W T R A r W' T' R' A') where
+  abbrev sch : Schedule
+  sch = scheduleOf s (planOf bs)
+
+  told : r ≡ rehearsedBy s sch (translateOf s bs room room)
+  unfolding rehearseOf
+  told = rw (longW, longT) at (ran .0)
+
+  answer : translationOf r ≡ translateOf s bs room room
+  answer = ap translationOf told ∙ translation-back s sch (translateOf s bs room room)
+
+  rows-are : R' ≡ filled (translateOf s bs room room) (runRecord s sch) R
+  rows-are = rw answer at (ran .1 .1 .1 .0)
+
+  times-are : A' ≡ filled (translateOf s bs room room) (runTimes s sch) A
+  times-are = rw answer at (ran .1 .1 .1 .1 .0)
+
+  pub way-refused : {n p : ℕ} → r ≡ Rehearsed.Refused n p → Promised s bs R A (Compared.Refused n p) R' A'
+  unfolding translationOf comparedBy comparedOf
+  way-refused is = (rw (← answer, is), (rows-are, times-are))
+
+  pub way-short : {n : ℕ} → r ≡ Rehearsed.Short n → Promised s bs R A (Compared.Refused 10 0) R' A'
+  unfolding translationOf comparedBy comparedOf
+  way-short is = (rw (← answer, is), (rows-are, times-are))
+
+  module _ {h : Head} {n e a : ℕ} (is : r ≡ Rehearsed.Done h n e a) where
+    done : translateOf s bs room room ≡ Translated.Done n e
+    unfolding translationOf
+    done = sym answer ∙ ap translationOf is
+
+    translated : Translated.Done n e ≡ translateOf s bs (length W) (length T)
+    translated = rw (longW, longT) (sym done)
+
+    words : W' ≡ filled (Translated.Done n e) (wordList sch) W
+    words = rw (answer ∙ done) at (ran .1 .0)
+
+    ticks : T' ≡ filled (Translated.Done n e) (tickList sch) T
+    ticks = rw (answer ∙ done) at (ran .1 .1 .0)
+
+    acts : a ≡ length (logOf (momentsOf e 0 (sch .list) s))
+    acts = acts-back s sch h n e a (sym is ∙ told ∙ ap (rehearsedBy s sch) done)
+
+    ends : e ≡ sch .end
+    ends = translated-end s bs W T W' T' n e translated words ticks
+
+    pub way-acts : a ≤ 64
+    way-acts =
+        let list = translated-list s bs W T W' T' n e translated words ticks in
+        let few = translated-acts s bs W T W' T' n e translated words ticks in
+        omega (arith, acts, rw list at few)
+
+    acts-are : a ≡ length (logOf (runOf s sch))
+    acts-are = acts ∙ ap (λ (n : ℕ). length (logOf (momentsOf n 0 (sch .list) s))) ends
+
+    front : take (21 * a + 21) R' ≡ runRecord s sch
+    unfolding filled runRecord
+    front =
+        let values = runRecord s sch in
+        let long = record-long (logOf (runOf s sch)) (headAfter (sch .end) 0 (sch .list) s .settings) in
+        ap (take (21 * a + 21)) (rw done at rows-are)
+        ∙ take-at values (drop (length values) R) (21 * a + 21) (long ∙ ap (λ (n : ℕ). 21 * n + 21) (sym acts-are))
+
+    pub way-done : {b : Bool} → b ≡ same (take (21 * a + 21) R') (readRecord (s .settings) (planOf bs))
+        → Promised s bs R A (Compared.Done a e b) R' A'
+    unfolding comparedBy comparedOf
+    way-done compared =
+        let equal = compared ∙ ap (λ (l : List ℕ). same l (readRecord (s .settings) (planOf bs))) front in
+        (rw (done, acts-are, equal), (rows-are, times-are))

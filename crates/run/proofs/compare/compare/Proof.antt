@@ -1,0 +1,64 @@
+-- `run::compare::compare` meets its contract: each way through the code is a law of `Comparison`.
+-- Assumes nothing.
+use mathlib.Core.Path.{_≡_}
+use Prim.Native.Nat.{ℕ}
+use native.Mathlib.Omega.{arith}
+use lib.ListN.{length, replicate, length-replicate}
+use Rattle.run.proofs.Comparison.{way-acts, way-done, way-refused, way-short}
+use borrow.Author.Needs.{needs}
+use Rattle.run.proofs.compare.compare.Statement.{statement}
+use Rattle.run.proofs.compare.compare.Tie as tie
+
+-- the buffers for words and ticks
+zeros : length (replicate {A = ℕ} 256 0) ≡ 256
+zeros = length-replicate {A = ℕ} 256 0
+
+slice-aggregate-rehearse : tie.Need-slice-aggregate-rehearse
+slice-aggregate-rehearse c = search needs
+
+slice-aggregate-rehearse-2 : tie.Need-slice-aggregate-rehearse-2
+slice-aggregate-rehearse-2 c = search needs
+
+rehearse-requires : tie.Need-rehearse-requires
+rehearse-requires c κs = search needs
+
+enum-known-rehearsed : tie.Need-enum-known-rehearsed
+enum-known-rehearsed c = search needs
+
+agrees-requires : tie.Need-agrees-requires
+agrees-requires c κs =
+    let few = way-acts _ _ _ _ _ _ zeros zeros (c .before .before .before .before .before .before .before .rehearse .ensures) (c .before .before .before .rehearsed .given .1) in
+    (few, omega (arith, c .agrees-arg2 .given .0))
+
+enum-known-rehearsed-2 : tie.Need-enum-known-rehearsed-2
+enum-known-rehearsed-2 c = search needs
+
+enum-told : tie.Need-enum-told
+enum-told c = search needs
+
+returns : tie.Need-returns
+returns c =
+    way-done _ _ _ _ _ _ zeros zeros (c .before .before .before .before .before .before .before .before .rehearse .ensures) (c .before .before .before .before .rehearsed .given .1) (c .agrees .ensures)
+
+returns-2 : tie.Need-returns-2
+returns-2 c =
+    way-refused _ _ _ _ _ _ zeros zeros (c .before .before .before .before .before .rehearse .ensures) (c .before .rehearsed2 .given .1)
+
+returns-3 : tie.Need-returns-3
+returns-3 c =
+    way-short _ _ _ _ _ _ zeros zeros (c .before .before .before .before .rehearse .ensures) (c .enum-told .given .1)
+
+pub compare-spec : {M : Type 1} → statement M
+compare-spec =
+    tie.close
+    (tie.spec
+    slice-aggregate-rehearse
+    slice-aggregate-rehearse-2
+    rehearse-requires
+    enum-known-rehearsed
+    agrees-requires
+    enum-known-rehearsed-2
+    enum-told
+    returns
+    returns-2
+    returns-3)

@@ -1,0 +1,37 @@
+-- A plan rehearsed and read without words, and the two records compared number by number.
+-- Assumes nothing.
+use Prim.Native.Nat.{ℕ}
+use mathlib.Core.Bool.{Bool, true, false, _&&_}
+use mathlib.Core.List.{List, [], _∷_}
+use lib.Dec.{eqb}
+use lib.ListN.{length}
+use Rattle.head.specs.declared.state.Head.{Head}
+use Rattle.plan.specs.Read.{readRecord}
+use Rattle.plan.specs.Stored.{Plan, planOf}
+use Rattle.schedule.specs.Schedule.{Schedule}
+use Rattle.schedule.specs.Translate.{scheduleOf, translateOf}
+use Rattle.schedule.specs.declared.Translated.{Translated}
+use Rattle.run.specs.Run.{logOf}
+use Rattle.run.specs.Rehearse.{runOf, runRecord}
+use Rattle.run.specs.declared.compare.Compared.{Compared}
+
+-- Two lists have the same numbers, and the same number of them.
+unfoldable pub same : List ℕ → List ℕ → Bool
+same [] [] = true
+same [] (y ∷ ys) = false
+same (x ∷ xs) [] = false
+same (x ∷ xs) (y ∷ ys) = eqb x y && same xs ys
+
+-- The number of acts the head made, the end, and whether the head's record is that of the plan read without words.
+unfoldable pub comparedBy : Head → Plan → Schedule → Translated → Compared
+comparedBy s p sch (Translated.Done n e) =
+    Compared.Done (length (logOf (runOf s sch))) e (same (runRecord s sch) (readRecord (s .settings) p))
+comparedBy s p sch (Translated.Refused n q) = Compared.Refused n q
+comparedBy s p sch (Translated.Short n) = Compared.Refused 10 0
+
+-- The translation has room for the most words that a plan has.
+abbrev pub room : ℕ
+room = 256
+
+unfoldable pub comparedOf : Head → List ℕ → Compared
+comparedOf s bs = comparedBy s (planOf bs) (scheduleOf s (planOf bs)) (translateOf s bs room room)

@@ -1,0 +1,89 @@
+// What the head did in a plan's run compared with the plan read without words, number by number.
+use crate::Rehearsed;
+use crate::rehearse::rehearse;
+use head::state::Head;
+use head::state::Settings;
+use plan::log::ROW;
+use plan::reading::Read;
+use plan::reading::read_plan;
+ghost use mathlib.Core.Path.{_≡_};
+ghost use Prim.Native.Nat.{_+_, _*_, _≤_};
+ghost use lib.ListN.{length, take};
+ghost use Rattle.plan.specs.Read.{readRecord};
+ghost use Rattle.plan.specs.Stored.{planOf};
+ghost use Rattle.schedule.specs.Translate.{scheduleOf, translateOf, filled};
+ghost use Rattle.run.specs.Rehearse.{runRecord, runTimes};
+ghost use Rattle.run.specs.Compare.{same, room, comparedOf};
+
+// What comparing answers.
+pub enum Compared {
+    // The number of acts, the tick at which the plan ends, and whether the two records are equal.
+    Done { acts: usize, end: u32, equal: bool },
+    // The number of document 01's refusal table, and the byte place.
+    Refused { number: u8, place: usize },
+}
+
+// Whether the first numbers of two lists are the same.
+fn same_front(a: &[u16], b: &[u16], count: usize) -> bool
+    requires { ⌜ count ≤ length (now a) ⌝ ∗ ⌜ count ≤ length (now b) ⌝ }
+    ensures { λ r. ⌜ r ≡ same (take count (now (a .entry))) (take count (now (b .entry))) ⌝ }
+{
+    let mut i: usize = 0;
+    while i < count {
+        if a[i] != b[i] {
+            return false;
+        }
+        i = i + 1;
+    }
+    true
+}
+
+// Whether the record of a run with so many acts is that of the plan read without words.
+fn agrees(settings: Settings, plan: &[u8], rows: &[u16], acts: usize) -> bool
+    requires { ⌜ acts ≤ 64 ⌝ ∗ ⌜ 21 * acts + 21 ≤ length (now rows) ⌝ }
+    ensures { λ r. ⌜ r ≡ same (take (21 * acts + 21) (now (rows .entry))) (readRecord settings (planOf (now (plan .entry)))) ⌝ }
+{
+    let mut read = [0u16; 1365];
+    let answer = read_plan(settings, plan, &mut read);
+    match answer {
+        Read::Accepted { acts: n } => {
+            if n != acts {
+                return false;
+            }
+            same_front(rows, &read, ROW * acts + ROW)
+        }
+        Read::Refused {
+            number: _,
+            place: _,
+        } => false,
+    }
+}
+
+// Rehearses a plan, reads it without words, and compares what the head did with what the reading says. A refusal is the
+// translation's and writes nothing.
+pub fn compare(head: Head, plan: &[u8], rows: &mut [u16; 1365], times: &mut [u32; 64]) -> Compared
+    ensures { λ r. ⌜ r ≡ comparedOf head (now (plan .entry)) ⌝ }
+    ensures { λ r. ⌜ now (rows .exit) ≡ filled (translateOf head (now (plan .entry)) room room) (runRecord head (scheduleOf head (planOf (now (plan .entry))))) (now (rows .entry)) ⌝ }
+    ensures { λ r. ⌜ now (times .exit) ≡ filled (translateOf head (now (plan .entry)) room room) (runTimes head (scheduleOf head (planOf (now (plan .entry))))) (now (times .entry)) ⌝ }
+{
+    let mut words = [0u16; 256];
+    let mut ticks = [0u32; 256];
+    let rehearsed = rehearse(head, plan, &mut words, &mut ticks, rows, times);
+    match rehearsed {
+        Rehearsed::Done {
+            head: _,
+            count: _,
+            end,
+            acts,
+        } => Compared::Done {
+            acts,
+            end,
+            equal: agrees(head.settings, plan, rows, acts),
+        },
+        Rehearsed::Refused { number, place } => Compared::Refused { number, place },
+        Rehearsed::Short { count: _ } => Compared::Refused {
+            number: 10,
+            place: 0,
+        },
+    }
+}
