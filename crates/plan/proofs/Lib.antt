@@ -11,3 +11,4 @@ pub mod Registers
 pub mod Walking
 pub mod Recorded
 pub mod Logging
+pub mod Recovered

@@ -12,13 +12,13 @@ use Rattle.plan.specs.Rows.{settingsRow, entryRow, rowsOf, endRow, recor
 use Rattle.plan.specs.Read.{atFront}
 use Rattle.plan.proofs.Laid.{sets-append, sets-front}
 
-row-long : (e : Entry) → length (entryRow e) ≡ 21
+pub row-long : (e : Entry) → length (entryRow e) ≡ 21
 unfolding entryRow settingsRow
 row-long (exposure r) = refl
 row-long request = refl
 row-long (coverMove d w s n) = refl
 
-rows-long : (es : List Entry) → length (rowsOf es) ≡ 21 * length es
+pub rows-long : (es : List Entry) → length (rowsOf es) ≡ 21 * length es
 unfolding rowsOf
 rows-long [] = refl
 rows-long (e ∷ es) = omega (arith, length-append (entryRow e) (rowsOf es), row-long e, rows-long es)

@@ -10,3 +10,4 @@ pub mod Acting
 pub mod Comparing
 pub mod Agreeing
 pub mod Comparison
+pub mod Equal
