@@ -6,3 +6,4 @@ pub mod Example
 pub mod Rows
 pub mod ActLines
 pub mod ReadBack
+pub mod Sheets

@@ -3,10 +3,20 @@
 use Prim.Native.Nat.{ℕ}
 use mathlib.Core.Bool.{Bool, cond}
 use mathlib.Core.List.{List, _++_}
+use lib.Dec.{ltb}
+use lib.ListN.{length}
+use Rattle.head.specs.State.{powerOn}
 use Rattle.head.specs.declared.state.Settings.{Settings}
 use Rattle.plan.specs.Reading.{Entry}
+use Rattle.plan.specs.Stored.{planOf}
+use Rattle.schedule.specs.Translate.{scheduleOf}
+use Rattle.run.specs.Run.{headAfter, logOf}
+use Rattle.run.specs.Rehearse.{runOf, runTimes}
+use Rattle.run.specs.Compare.{comparedOf}
+use Rattle.run.specs.declared.compare.Compared.{Compared}
+use Rattle.run.specs.declared.compare.Compared.the-variants.{Done, Refused}
 use Rattle.text.specs.Numbers.{ascii}
-use Rattle.text.specs.Lines.{named}
+use Rattle.text.specs.Lines.{named, refusalLine, tooLongLine}
 use Rattle.text.specs.Values.{secondsOf}
 use Rattle.text.specs.Settings.{settingsText}
 use Rattle.text.specs.Acts.{actLines}
@@ -27,3 +37,15 @@ equalLine equal = ascii "the head's log and settings equal the plan's reading: "
 unfoldable pub sheetOf : List Entry → List ℕ → Settings → ℕ → Bool → List ℕ
 sheetOf log times settings end equal =
     actsHeadLine ++ actLines 1 times log ++ settingsLine settings ++ endTimeLine end ++ equalLine equal
+
+-- What is printed of an answer of the comparison; log, times and settings are those of the run.
+unfoldable pub comparedText : Compared → List Entry → List ℕ → Settings → List ℕ
+comparedText (Done acts end equal) log times settings = sheetOf log times settings end equal
+comparedText (Refused number place) log times settings = refusalLine number place
+
+-- At most 4,096 bytes are read, and power-on is the state.
+unfoldable pub sheetFor : List ℕ → List ℕ
+sheetFor bs =
+    let sch = scheduleOf powerOn (planOf bs) in
+    cond (ltb 4096 (length bs)) tooLongLine
+    (comparedText (comparedOf powerOn bs) (logOf (runOf powerOn sch)) (runTimes powerOn sch) (headAfter (sch .end) 0 (sch .list) powerOn .settings))

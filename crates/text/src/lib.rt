@@ -1,4 +1,4 @@
-// The text that the listing program prints (document 01, "Examples").
+// The texts that the programs print: a listing (document 01, "Examples"), and the sheet of a rehearsal.
 pub mod acts;
 pub mod lines;
 pub mod listing;

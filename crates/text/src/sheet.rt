@@ -1,18 +1,26 @@
 // A rehearsal's sheet, laid into a list of bytes.
 use crate::acts::put_act_lines;
 use crate::acts::settings_of;
+use crate::lines::put_refusal_line;
+use crate::listing::MOST_INPUT;
 use crate::numbers::put_bytes;
 use crate::numbers::put_named;
 use crate::settings::put_settings;
 use crate::values::put_choice;
 use crate::values::put_seconds;
+use head::state::Head;
 use plan::log::ROW;
+use run::compare::Compared;
+use run::compare::compare;
 ghost use mathlib.Core.Path.{_≡_};
 ghost use Prim.Native.Nat.{_+_, _*_, _≤_};
 ghost use lib.ListN.{length, take};
-ghost use Rattle.text.specs.Laid.{Laid};
+ghost use Rattle.text.specs.Laid.{Laid, Front};
 ghost use Rattle.text.specs.Read.{rowAt, rowSettings, entriesIn};
-ghost use Rattle.text.specs.Sheet.{settingsLine, endTimeLine, equalLine, sheetOf};
+ghost use Rattle.text.specs.Sheet.{settingsLine, endTimeLine, equalLine, sheetOf, sheetFor};
+
+// Room for the sheet of 64 acts: 840 bytes of each, and 1,000 of the other lines.
+pub const LONGEST_SHEET: usize = 54760;
 
 // The settings at the end, by their row: at most 782 bytes.
 fn put_settings_line(out: &mut [u8], at: usize, row: &[u16]) -> usize
@@ -67,4 +75,20 @@ fn put_sheet(
     let end_time = put_settings_line(out, settings, &rows[from..to]);
     let answer = put_end_time(out, end_time, end);
     put_equal(out, answer, equal)
+}
+
+// The text for a plan; the answer is its length.
+pub fn sheet(plan: &[u8], out: &mut [u8; LONGEST_SHEET]) -> usize
+    ensures { λ r. ⌜ Front (now (out .entry)) (sheetFor (now (plan .entry))) r (now (out .exit)) ⌝ }
+{
+    if MOST_INPUT < plan.len() {
+        return put_bytes(out, 0, b"input too long\n");
+    }
+    let mut rows = [0u16; 1365];
+    let mut times = [0u32; 64];
+    let answer = compare(Head::power_on(), plan, &mut rows, &mut times);
+    match answer {
+        Compared::Done { acts, end, equal } => put_sheet(out, &rows, &times, acts, end, equal),
+        Compared::Refused { number, place } => put_refusal_line(out, number, place),
+    }
 }
