@@ -48,7 +48,9 @@ add-same-front : tie.Need-add-same-front
 add-same-front c = search needs
 
 same-front-requires : tie.Need-same-front-requires
-same-front-requires c κs = (c .before .before .before .before .before .before .before .before .before .pre .1, let few = c .before .before .before .before .before .before .before .before .before .pre .0 in omega (arith, long c))
+same-front-requires c κs =
+    let start = c .before .before .before .before .before .before .before .before .before in
+    (omega (arith, start .pre .1), omega (arith, start .pre .0, long c))
 
 enum-told : tie.Need-enum-told
 enum-told c = search needs
