@@ -2,7 +2,7 @@
 -- Assumes nothing.
 use mathlib.Core.Path.{_≡_, refl, sym, ap, _∙_}
 use mathlib.Core.Bool.{Bool, true, false}
-use mathlib.Core.List.{List, [], _∷_, _++_}
+use mathlib.Core.List.{List, [], _∷_}
 use Prim.Native.Nat.{ℕ, _+_, _*_, _≤_, _<_}
 use native.Mathlib.Omega.{arith}
 use borrow.Author.Tests.{eq-eqb, ne-eqb}
@@ -13,7 +13,7 @@ use Rattle.plan.specs.Codes as code
 use Rattle.plan.specs.Codes.{is, fit}
 use Rattle.plan.specs.Stored.{Plan, orders, refused, byteAt, orderAt, planOf, ordersIn}
 use Rattle.plan.specs.Judged.{judgedOf}
-use Rattle.plan.specs.Reading.{Entry, exposure, request, coverMove, settingsBy, entriesBy, settingsRead, logRead}
+use Rattle.plan.specs.Reading.{exposure, request, coverMove, settingsBy, entriesBy, settingsRead, logRead}
 use Rattle.plan.specs.Rows.{rowsOf, endRow, recordOf}
 use Rattle.plan.specs.Read.{readOf, readRecord, atFront}
 use Rattle.plan.specs.declared.order.Order.{Order}

@@ -11,7 +11,7 @@ use Rattle.head.specs.declared.state.Head.{Head}
 use Rattle.plan.specs.Read.{readRecord}
 use Rattle.plan.specs.Stored.{planOf}
 use Rattle.plan.proofs.Recorded.{record-long}
-use Rattle.schedule.specs.Schedule.{Timed, Schedule}
+use Rattle.schedule.specs.Schedule.{Schedule}
 use Rattle.schedule.specs.Translate.{scheduleOf, translateOf, filled, tickList, wordList}
 use Rattle.schedule.specs.declared.Translated.{Translated}
 use Rattle.run.specs.Run.{momentsOf, headAfter, logOf}

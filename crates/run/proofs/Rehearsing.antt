@@ -1,7 +1,7 @@
 -- The words of two lists given to the head at their ticks, one after another: what is left of the run, and of its log, after i of them.
 -- Assumes nothing.
 use mathlib.Core.Path.{_≡_, refl, sym, ap, _∙_}
-use mathlib.Core.List.{List, [], _∷_, _++_}
+use mathlib.Core.List.{List, [], _∷_}
 use mathlib.Core.Option.{some}
 use Prim.Native.Nat.{ℕ, zero, suc, _+_, _-_, _*_, min, _≤_, _<_}
 use native.Mathlib.Nat.{sub-zero}
@@ -16,7 +16,7 @@ use Rattle.plan.specs.Rows.{rowsOf, endRow, recordOf}
 use Rattle.plan.proofs.Laid.{sets-append}
 use Rattle.plan.proofs.Recorded.{record-next, record-last}
 use Rattle.schedule.specs.Schedule.{Timed, Rising}
-use Rattle.run.specs.Run.{Moment, next, momentsOf, headAfter, momentLog, logOf, timesOf}
+use Rattle.run.specs.Run.{next, momentsOf, headAfter, momentLog, logOf, timesOf}
 use Rattle.run.specs.Claim.{paired}
 use Rattle.run.proofs.Acting.{Logged}
 use Rattle.run.proofs.NextWord.{timed, rising-end, ranFrom, lastOf, rowsFrom, given, first-head, first-log, first-times, none-head, none-log, none-times}

@@ -3,7 +3,6 @@
 use mathlib.Core.Path.{_∙_}
 use Prim.Native.Nat.{_-_, _≤_, _<_}
 use native.Mathlib.Omega.{arith}
-use denote.Ref.{now}
 use Rattle.plan.specs.Stored.{planOf, ordersIn}
 use Rattle.plan.specs.Rows.{endRow}
 use Rattle.plan.proofs.Logging.{Logging, logging-first, logging-room, logging-fits, logging-ends, logging-next, logged-acts, logged-rows}

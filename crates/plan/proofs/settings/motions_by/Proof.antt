@@ -1,6 +1,5 @@
 -- `plan::settings::motions_by` meets its contract: each code sets its registers.
 -- Assumes nothing.
-use mathlib.Core.Path.{_≡_}
 use Prim.Native.Nat.{_≤_}
 use native.Mathlib.Omega.{arith}
 use Rattle.plan.specs.Reading.{settingsBy}
