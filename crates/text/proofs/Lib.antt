@@ -7,3 +7,4 @@ pub mod Rows
 pub mod ActLines
 pub mod ReadBack
 pub mod Sheets
+pub mod Accepted

@@ -1,13 +1,13 @@
 -- A row of numbers read as an act.
 -- Assumes nothing.
-use mathlib.Core.Path.{_≡_, refl, sym, ap, _∙_}
-use mathlib.Core.List.{List, [], _∷_, _++_}
+use mathlib.Core.Path.{_≡_, refl, ap, _∙_}
+use mathlib.Core.List.{List}
 use Prim.Native.Nat.{ℕ, zero, suc, _+_, _-_, _*_, _≤_, _<_}
 use native.Mathlib.Omega.{arith}
 use borrow.Author.Tests.{eq-eqb, ne-eqb}
 use lib.ListN.{length, getD, take, drop, length-take, length-drop}
 use lib.Seq.{drop-drop}
-use Rattle.plan.specs.Reading.{Entry, exposure, request, coverMove}
+use Rattle.plan.specs.Reading.{exposure, request, coverMove}
 use Rattle.text.specs.Read.{rowAt, rowSettings, rowEntry, entriesIn}
 
 module _ (row : List ℕ) where

@@ -13,10 +13,10 @@ use Rattle.plan.specs.Rows.{recordOf}
 use Rattle.plan.specs.Read.{atFront}
 use Rattle.plan.specs.Stored.{planOf}
 use Rattle.plan.proofs.Recorded.{record-long}
-use Rattle.schedule.specs.Schedule.{Schedule, Timed}
+use Rattle.schedule.specs.Schedule.{Schedule}
 use Rattle.schedule.specs.Translate.{scheduleOf, translateOf, filled, wordList, tickList}
 use Rattle.schedule.specs.declared.Translated.{Translated}
-use Rattle.run.specs.Run.{momentsOf, headAfter, logOf, timesOf}
+use Rattle.run.specs.Run.{headAfter, logOf, timesOf}
 use Rattle.run.specs.Rehearse.{runOf, runRecord, runTimes}
 use Rattle.run.specs.Compare.{room, comparedBy, comparedOf}
 use Rattle.run.specs.declared.compare.Compared.{Compared}

@@ -4,7 +4,6 @@ use Prim.Native.Nat.{ℕ}
 use mathlib.Core.Bool.{cond}
 use mathlib.Core.List.{List, _++_}
 use lib.Dec.{eqb}
-use lib.ListN.{getD}
 use Rattle.head.specs.declared.state.Settings.{Settings}
 use Rattle.text.specs.Numbers.{ascii}
 use Rattle.text.specs.Lines.{named}
