@@ -1,25 +1,23 @@
 -- The ways through `rehearse`, and what its answer says of the head.
 -- Assumes nothing.
 use mathlib.Core.Path.{_≡_, refl, ap, _∙_}
-use mathlib.Core.List.{List, _++_}
+use mathlib.Core.List.{List}
 use Prim.Native.Nat.{ℕ, _≤_}
 use native.Mathlib.Omega.{arith}
-use lib.ListN.{length, take, drop}
+use lib.ListN.{length}
 use lib.Seq.{sets}
 use Rattle.head.specs.declared.state.Head.{Head}
 use Rattle.plan.specs.Reading.{settingsRead}
 use Rattle.plan.specs.Read.{atFront}
-use Rattle.plan.specs.Rows.{recordOf}
 use Rattle.plan.specs.Stored.{planOf, ordersIn}
 use Rattle.plan.proofs.Laid.{sets-front}
 use Rattle.plan.proofs.Recorded.{record-front}
-use Rattle.schedule.specs.Schedule.{Timed, Schedule, Rising}
+use Rattle.schedule.specs.Schedule.{Schedule, Rising}
 use Rattle.schedule.specs.Translate.{scheduleOf, filled, tickList, wordList}
 use Rattle.schedule.specs.declared.Translated.{Translated}
 use Rattle.schedule.proofs.Translating.{Told}
 use Rattle.run.specs.Run.{momentsOf, headAfter, logOf, timesOf}
-use Rattle.run.specs.Claim.{paired}
-use Rattle.run.specs.Rehearse.{rehearsedBy, rehearseOf, translationOf, runRecord, runTimes, Fulfilled}
+use Rattle.run.specs.Rehearse.{rehearsedBy, rehearseOf, translationOf, buffered, runOf, runRecord, runTimes, Fulfilled}
 use Rattle.run.specs.declared.Rehearsed.{Rehearsed}
 use Rattle.run.proofs.Quiet.{times-long}
 use Rattle.run.proofs.Accepted.{room-words, room-ticks, translated-list, translated-end, translated-acts, translated-rising, translated-demands}
@@ -48,68 +46,56 @@ module _ (s : Head) (bs W T R A : List ℕ) {W' T' : List ℕ} {r : Translated} 
     done : Told s bs W T (Translated.Done n e) W' T'
     done = rw is at told
 
-    abbrev list : List Timed
-    list = paired (take n T') (take n W')
-
-    abbrev sch : Schedule
-    sch = scheduleOf s (planOf bs)
-
     pub way-words : n ≤ length W'
     way-words = room-words s bs W T W' T' n e (done .0) (done .1 .0) (done .1 .1)
 
     pub way-ticks : n ≤ length T'
     way-ticks = room-ticks s bs W T W' T' n e (done .0) (done .1 .0) (done .1 .1)
 
-    pub way-rising : Rising 0 (paired (take n T') (take n W')) e
+    pub way-rising : Rising 0 (buffered n e T' W' .list) e
     way-rising = translated-rising s bs W T W' T' n e (done .0) (done .1 .0) (done .1 .1)
 
-    pub way-acts : length (logOf (momentsOf e 0 (paired (take n T') (take n W')) s)) ≤ 64
+    pub way-acts : length (logOf (runOf s (buffered n e T' W'))) ≤ 64
     way-acts = translated-acts s bs W T W' T' n e (done .0) (done .1 .0) (done .1 .1)
 
-    same : list ≡ sch .list
-    same = translated-list s bs W T W' T' n e (done .0) (done .1 .0) (done .1 .1)
+    -- the buffers hold the plan's schedule
+    same : buffered n e T' W' ≡ scheduleOf s (planOf bs)
+    same =
+        rw (
+          translated-list s bs W T W' T' n e (done .0) (done .1 .0) (done .1 .1),
+          translated-end s bs W T W' T' n e (done .0) (done .1 .0) (done .1 .1),
+        )
 
-    end : e ≡ sch .end
-    end = translated-end s bs W T W' T' n e (done .0) (done .1 .0) (done .1 .1)
-
-    -- what was laid is the run's record and ticks, and there was room for them
-    rows-are : recordOf (logOf (momentsOf e 0 list s)) (headAfter e 0 list s .settings) ≡ runRecord s sch
-    unfolding runRecord
-    rows-are = rw (same, end)
-
-    times-are : timesOf 0 (momentsOf e 0 list s) ≡ runTimes s sch
-    unfolding runTimes
-    times-are = rw (same, end)
-
-    way-rows : {R' : List ℕ} → length R ≡ 1365
-        → R' ≡ sets R 0 (recordOf (logOf (momentsOf e 0 list s)) (headAfter e 0 list s .settings))
-        → R' ≡ filled (Translated.Done n e) (runRecord s sch) R
-    unfolding filled atFront
+    -- the run's record and ticks have room
+    way-rows : {R' : List ℕ} → length R ≡ 1365 → R' ≡ sets R 0 (runRecord s (buffered n e T' W'))
+        → R' ≡ filled (Translated.Done n e) (runRecord s (scheduleOf s (planOf bs))) R
+    unfolding filled atFront runRecord
     way-rows long laid =
+        let sch = buffered n e T' W' in
         laid
-        ∙ record-front (logOf (momentsOf e 0 list s)) (headAfter e 0 list s .settings) R (omega (arith, way-acts))
-        ∙ ap (λ (v : List ℕ). v ++ drop (length v) R) rows-are
+        ∙ record-front (logOf (runOf s sch)) (headAfter e 0 (sch .list) s .settings) R (omega (arith, way-acts))
+        ∙ ap (λ (x : Schedule). filled (Translated.Done n e) (runRecord s x) R) same
 
-    way-times : {A' : List ℕ} → length A ≡ 64 → A' ≡ sets A 0 (timesOf 0 (momentsOf e 0 list s))
-        → A' ≡ filled (Translated.Done n e) (runTimes s sch) A
-    unfolding filled
+    way-times : {A' : List ℕ} → length A ≡ 64 → A' ≡ sets A 0 (runTimes s (buffered n e T' W'))
+        → A' ≡ filled (Translated.Done n e) (runTimes s (scheduleOf s (planOf bs))) A
+    unfolding filled runTimes
     way-times long laid =
-        let ms = momentsOf e 0 list s in
+        let ms = runOf s (buffered n e T' W') in
         laid
         ∙ sets-front (timesOf 0 ms) A (omega (arith, times-long 0 ms, way-acts))
-        ∙ ap (λ (v : List ℕ). v ++ drop (length v) A) times-are
+        ∙ ap (λ (x : Schedule). filled (Translated.Done n e) (runTimes s x) A) same
 
     module _ (longRows : length R ≡ 1365) (longTimes : length A ≡ 64) where
       pub way-done : {h : Head} {a : ℕ} {R' A' : List ℕ}
-          → (h ≡ headAfter e 0 (paired (take n T') (take n W')) s)
-          × ((a ≡ length (logOf (momentsOf e 0 (paired (take n T') (take n W')) s)))
-          × ((R' ≡ sets R 0 (recordOf (logOf (momentsOf e 0 (paired (take n T') (take n W')) s)) (headAfter e 0 (paired (take n T') (take n W')) s .settings)))
-          × (A' ≡ sets A 0 (timesOf 0 (momentsOf e 0 (paired (take n T') (take n W')) s)))))
+          → (h ≡ headAfter e 0 (buffered n e T' W' .list) s)
+          × ((a ≡ length (logOf (runOf s (buffered n e T' W'))))
+          × ((R' ≡ sets R 0 (runRecord s (buffered n e T' W'))) × (A' ≡ sets A 0 (runTimes s (buffered n e T' W')))))
           → Answers s bs W T R A (Rehearsed.Done h n e a) W' T' R' A'
       unfolding rehearseOf rehearsedBy translationOf Fulfilled
       way-done {a = a} ran =
-          let head = ran .0 ∙ ap (λ (l : List Timed). headAfter e 0 l s) same in
-          let acts = ran .1 .0 ∙ ap (λ (l : List Timed). length (logOf (momentsOf e 0 l s))) same in (
+          let sch = scheduleOf s (planOf bs) in
+          let head = ran .0 ∙ ap (λ (x : Schedule). headAfter e 0 (x .list) s) same in
+          let acts = ran .1 .0 ∙ ap (λ (x : Schedule). length (logOf (momentsOf e 0 (x .list) s))) same in (
             ap (λ (x : Head). Rehearsed.Done x n e a) head
                 ∙ ap (λ (k : ℕ). Rehearsed.Done (headAfter e 0 (sch .list) s) n e k) acts
                 ∙ ap (rehearsedBy s sch) (done .0),

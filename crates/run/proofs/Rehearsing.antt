@@ -12,12 +12,13 @@ use lib.Seq.{sets, length-sets, drop-cons, getD-take}
 use Rattle.head.specs.Tick.{ticksOf}
 use Rattle.head.specs.declared.state.Head.{Head}
 use Rattle.plan.specs.Reading.{Entry}
-use Rattle.plan.specs.Rows.{rowsOf, endRow, recordOf}
+use Rattle.plan.specs.Rows.{rowsOf, endRow}
 use Rattle.plan.proofs.Laid.{sets-append}
 use Rattle.plan.proofs.Recorded.{record-next, record-last}
-use Rattle.schedule.specs.Schedule.{Timed, Rising}
-use Rattle.run.specs.Run.{next, momentsOf, headAfter, momentLog, logOf, timesOf}
+use Rattle.schedule.specs.Schedule.{Timed, Schedule, Rising}
+use Rattle.run.specs.Run.{next, headAfter, momentLog, logOf, timesOf}
 use Rattle.run.specs.Claim.{paired}
+use Rattle.run.specs.Rehearse.{buffered, runOf, runRecord, runTimes}
 use Rattle.run.proofs.Acting.{Logged}
 use Rattle.run.proofs.NextWord.{timed, rising-end, ranFrom, lastOf, rowsFrom, given, first-head, first-log, first-times, none-head, none-log, none-times}
 
@@ -40,25 +41,23 @@ paired-at (suc i) (t ∷ ts) (w ∷ ws) p q = paired-at i ts ws (omega arith) (o
 pub record Running (words ticks : List ℕ) (count end : ℕ) (head : Head) (rows₀ times₀ rows times : List ℕ) (state : Head) (clock acts i : ℕ) : Type 0 where
   pub roomWords : count ≤ length words
   pub roomTicks : count ≤ length ticks
-  pub roomActs : length (logOf (momentsOf end 0 (paired (take count ticks) (take count words)) head)) ≤ length times₀
-  pub rising : Rising clock (drop i (paired (take count ticks) (take count words))) end
+  pub roomActs : length (logOf (runOf head (buffered count end ticks words))) ≤ length times₀
+  pub rising : Rising clock (drop i (buffered count end ticks words .list)) end
   pub longRows : length rows ≡ length rows₀
   pub longTimes : length times ≡ length times₀
-  pub same : headAfter end 0 (paired (take count ticks) (take count words)) head
-      ≡ lastOf end clock (drop i (paired (take count ticks) (take count words))) state
-  pub sameActs : length (logOf (momentsOf end 0 (paired (take count ticks) (take count words)) head))
-      ≡ acts + length (logOf (ranFrom end clock (drop i (paired (take count ticks) (take count words))) state))
-  pub sameRows : sets rows₀ 0
-      (recordOf (logOf (momentsOf end 0 (paired (take count ticks) (take count words)) head))
-      (headAfter end 0 (paired (take count ticks) (take count words)) head .settings))
-      ≡ sets rows (21 * acts) (rowsFrom end clock (drop i (paired (take count ticks) (take count words))) state)
-  pub sameTimes : sets times₀ 0 (timesOf 0 (momentsOf end 0 (paired (take count ticks) (take count words)) head))
-      ≡ sets times acts (timesOf clock (ranFrom end clock (drop i (paired (take count ticks) (take count words))) state))
+  pub same : headAfter end 0 (buffered count end ticks words .list) head ≡ lastOf end clock (drop i (buffered count end ticks words .list)) state
+  pub sameActs : length (logOf (runOf head (buffered count end ticks words)))
+      ≡ acts + length (logOf (ranFrom end clock (drop i (buffered count end ticks words .list)) state))
+  pub sameRows : sets rows₀ 0 (runRecord head (buffered count end ticks words))
+      ≡ sets rows (21 * acts) (rowsFrom end clock (drop i (buffered count end ticks words .list)) state)
+  pub sameTimes : sets times₀ 0 (runTimes head (buffered count end ticks words))
+      ≡ sets times acts (timesOf clock (ranFrom end clock (drop i (buffered count end ticks words .list)) state))
 
 module _ {words ticks : List ℕ} {count end : ℕ} {head : Head} {rows₀ times₀ : List ℕ} where
-  pub running-first : count ≤ length words → count ≤ length ticks → Rising 0 (paired (take count ticks) (take count words)) end
-      → length (logOf (momentsOf end 0 (paired (take count ticks) (take count words)) head)) ≤ length times₀
+  pub running-first : count ≤ length words → count ≤ length ticks → Rising 0 (buffered count end ticks words .list) end
+      → length (logOf (runOf head (buffered count end ticks words))) ≤ length times₀
       → Running words ticks count end head rows₀ times₀ rows₀ times₀ head 0 0 0
+  unfolding runRecord runTimes
   running-first p q r a =
       record {
         roomWords = p;
@@ -75,8 +74,11 @@ module _ {words ticks : List ℕ} {count end : ℕ} {head : Head} {rows₀ times
 
   module _ {rows times : List ℕ} {state : Head} {clock acts i : ℕ}
       (h : Running words ticks count end head rows₀ times₀ rows times state clock acts i) where
+    abbrev sch : Schedule
+    sch = buffered count end ticks words
+
     abbrev list : List Timed
-    list = paired (take count ticks) (take count words)
+    list = sch .list
 
     long : length list ≡ count
     long =
@@ -125,7 +127,7 @@ module _ {words ticks : List ℕ} {count end : ℕ} {head : Head} {rows₀ times
       after : Head
       after = next (ticksOf (tick - clock) state) (some word)
 
-      left : length (logOf (momentsOf end 0 list head)) ≡ acts + (length entries + length (logOf (ranFrom end (tick + 1) rest after)))
+      left : length (logOf (runOf head sch)) ≡ acts + (length entries + length (logOf (ranFrom end (tick + 1) rest after)))
       unfolding entries after
       left =
           h .sameActs
@@ -179,26 +181,26 @@ module _ {words ticks : List ℕ} {count end : ℕ} {head : Head} {rows₀ times
       over : drop i list ≡ []
       over = drop-of-length-le list {i = i} (rw long all)
 
-      pub running-last : {last : Head} → last ≡ ticksOf (end - clock) state → last ≡ headAfter end 0 list head
+      pub running-last : {last : Head} → last ≡ ticksOf (end - clock) state → last ≡ headAfter end 0 (buffered count end ticks words .list) head
       running-last is =
           is
           ∙ sym (none-head (end - clock) clock state)
           ∙ sym (h .same ∙ ap (λ (l : List Timed). lastOf end clock l state) over)
 
-      pub running-acts : acts ≡ length (logOf (momentsOf end 0 list head))
+      pub running-acts : acts ≡ length (logOf (runOf head (buffered count end ticks words)))
       running-acts =
           let none = ap (λ (l : List Timed). logOf (ranFrom end clock l state)) over ∙ none-log (end - clock) clock state in
           omega (arith, h .sameActs ∙ ap (λ (l : List Entry). acts + length l) none)
 
       pub running-rows : {last : Head} {rows' : List ℕ} → last ≡ ticksOf (end - clock) state → rows' ≡ sets rows (21 * acts) (endRow (last .settings))
-          → rows' ≡ sets rows₀ 0 (recordOf (logOf (momentsOf end 0 list head)) (headAfter end 0 list head .settings))
+          → rows' ≡ sets rows₀ 0 (runRecord head (buffered count end ticks words))
       running-rows {last} is laid =
           laid
           ∙ sym (h .sameRows
           ∙ ap (λ (l : List Timed). sets rows (21 * acts) (rowsFrom end clock l state)) over
           ∙ rw (none-log (end - clock) clock state, none-head (end - clock) clock state, ← is) (record-last rows acts (last .settings)))
 
-      pub running-times : times ≡ sets times₀ 0 (timesOf 0 (momentsOf end 0 list head))
+      pub running-times : times ≡ sets times₀ 0 (runTimes head (buffered count end ticks words))
       running-times =
           sym (h .sameTimes
           ∙ ap (λ (l : List Timed). sets times acts (timesOf clock (ranFrom end clock l state))) over

@@ -35,3 +35,12 @@ room = 256
 
 unfoldable pub comparedOf : Head → List ℕ → Compared
 comparedOf s bs = comparedBy s (planOf bs) (scheduleOf s (planOf bs)) (translateOf s bs room room)
+
+-- The refusal's number of document 01, 0 for none, and its byte place.
+unfoldable pub comparedNumber : Compared → ℕ
+comparedNumber (Compared.Done a e b) = 0
+comparedNumber (Compared.Refused n p) = n
+
+unfoldable pub comparedPlace : Compared → ℕ
+comparedPlace (Compared.Done a e b) = 0
+comparedPlace (Compared.Refused n p) = p

@@ -14,6 +14,10 @@ use Rattle.run.specs.Run.{Moment, momentsOf, headAfter, logOf, timesOf}
 use Rattle.run.specs.Claim.{paired, Demands}
 use Rattle.run.specs.declared.Rehearsed.{Rehearsed}
 
+-- The first n places of a buffer of ticks and one of words, and an end, read as a schedule.
+abbrev pub buffered : ℕ → ℕ → List ℕ → List ℕ → Schedule
+buffered n end ticks words = record { list = paired (take n ticks) (take n words); end = end }
+
 -- The moments of a head under a schedule, from tick 0 to its end.
 abbrev pub runOf : Head → Schedule → List Moment
 runOf s sch = momentsOf (sch .end) 0 (sch .list) s

@@ -66,6 +66,7 @@ pub fn compare(head: Head, plan: &[u8], rows: &mut [u16; 1365], times: &mut [u32
     ensures { λ r. ⌜ now (rows .exit) ≡ filled (translateOf head (now (plan .entry)) room room) (runRecord head (scheduleOf head (planOf (now (plan .entry))))) (now (rows .entry)) ⌝ }
     ensures { λ r. ⌜ now (times .exit) ≡ filled (translateOf head (now (plan .entry)) room room) (runTimes head (scheduleOf head (planOf (now (plan .entry))))) (now (times .entry)) ⌝ }
 {
+    // Room for the words of every plan.
     let mut words = [0u16; 256];
     let mut ticks = [0u32; 256];
     let rehearsed = rehearse(head, plan, &mut words, &mut ticks, rows, times);

@@ -10,15 +10,14 @@ use schedule::translate::translate;
 ghost use mathlib.Core.Path.{_≡_};
 ghost use mathlib.Core.Option.{some};
 ghost use Prim.Native.Nat.{_+_, _*_, _≤_};
-ghost use lib.ListN.{length, take, replicate};
+ghost use lib.ListN.{length, replicate};
 ghost use lib.Seq.{sets};
 ghost use Rattle.plan.specs.Stored.{planOf};
-ghost use Rattle.plan.specs.Rows.{rowsOf, recordOf};
+ghost use Rattle.plan.specs.Rows.{rowsOf};
 ghost use Rattle.schedule.specs.Schedule.{Rising};
 ghost use Rattle.schedule.specs.Translate.{scheduleOf, filled, tickList, wordList};
-ghost use Rattle.run.specs.Run.{next, headAfter, momentsOf, momentLog, logOf, timesOf};
-ghost use Rattle.run.specs.Claim.{paired};
-ghost use Rattle.run.specs.Rehearse.{rehearseOf, translationOf, runRecord, runTimes, Fulfilled};
+ghost use Rattle.run.specs.Run.{next, headAfter, momentLog, logOf};
+ghost use Rattle.run.specs.Rehearse.{rehearseOf, translationOf, buffered, runOf, runRecord, runTimes, Fulfilled};
 
 // A head, and how many acts it has made.
 struct Ran {
@@ -53,12 +52,12 @@ fn run_words(
     times: &mut [u32],
 ) -> Ran
     requires { ⌜ count ≤ length (now words) ⌝ ∗ ⌜ count ≤ length (now ticks) ⌝ }
-    requires { ⌜ Rising 0 (paired (take count (now ticks)) (take count (now words))) end ⌝ }
-    requires { ⌜ length (logOf (momentsOf end 0 (paired (take count (now ticks)) (take count (now words))) head)) ≤ length (now times) ⌝ }
-    ensures { λ r. ⌜ r .head ≡ headAfter end 0 (paired (take count (now (ticks .entry))) (take count (now (words .entry)))) head ⌝ }
-    ensures { λ r. ⌜ r .acts ≡ length (logOf (momentsOf end 0 (paired (take count (now (ticks .entry))) (take count (now (words .entry)))) head)) ⌝ }
-    ensures { λ r. ⌜ now (rows .exit) ≡ sets (now (rows .entry)) 0 (recordOf (logOf (momentsOf end 0 (paired (take count (now (ticks .entry))) (take count (now (words .entry)))) head)) (headAfter end 0 (paired (take count (now (ticks .entry))) (take count (now (words .entry)))) head .settings)) ⌝ }
-    ensures { λ r. ⌜ now (times .exit) ≡ sets (now (times .entry)) 0 (timesOf 0 (momentsOf end 0 (paired (take count (now (ticks .entry))) (take count (now (words .entry)))) head)) ⌝ }
+    requires { ⌜ Rising 0 (buffered count end (now ticks) (now words) .list) end ⌝ }
+    requires { ⌜ length (logOf (runOf head (buffered count end (now ticks) (now words)))) ≤ length (now times) ⌝ }
+    ensures { λ r. ⌜ r .head ≡ headAfter end 0 (buffered count end (now (ticks .entry)) (now (words .entry)) .list) head ⌝ }
+    ensures { λ r. ⌜ r .acts ≡ length (logOf (runOf head (buffered count end (now (ticks .entry)) (now (words .entry))))) ⌝ }
+    ensures { λ r. ⌜ now (rows .exit) ≡ sets (now (rows .entry)) 0 (runRecord head (buffered count end (now (ticks .entry)) (now (words .entry)))) ⌝ }
+    ensures { λ r. ⌜ now (times .exit) ≡ sets (now (times .entry)) 0 (runTimes head (buffered count end (now (ticks .entry)) (now (words .entry)))) ⌝ }
 {
     let mut state = head;
     let mut clock: u32 = 0;
