@@ -22,7 +22,8 @@ same [] (y ∷ ys) = false
 same (x ∷ xs) [] = false
 same (x ∷ xs) (y ∷ ys) = eqb x y && same xs ys
 
--- The number of acts the head made, the end, and whether the head's record is that of the plan read without words.
+-- The number of acts the head made, the end, and whether the head's record is that of the plan read without words. A refusal is the
+-- translation's; 10, a buffer shorter than the count, has place 0.
 unfoldable pub comparedBy : Head → Plan → Schedule → Translated → Compared
 comparedBy s p sch (Translated.Done n e) =
     Compared.Done (length (logOf (runOf s sch))) e (same (runRecord s sch) (readRecord (s .settings) p))
