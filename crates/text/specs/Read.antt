@@ -1,4 +1,4 @@
--- A record of acts read back (plan's definitions in Rows): a row of 21 numbers for each act, and one for the settings at the end.
+-- A record of acts read back from its numbers: a row of 21 for each act, and one for the settings at the end (plan, Rows).
 -- Assumes nothing.
 use Prim.Native.Nat.{ℕ, zero, suc, _*_}
 use mathlib.Core.Bool.{cond}
@@ -37,7 +37,7 @@ rowSettings row =
       direction = getD row 20 0;
     }
 
--- 1 is an exposure, 2 a housekeeping request, 3 a cover move.
+-- 1 is an exposure, 2 a housekeeping request, any other number a cover move with its four fields.
 unfoldable pub rowEntry : List ℕ → Entry
 rowEntry row =
     cond (eqb (getD row 0 0) 1) (exposure (rowSettings row))
