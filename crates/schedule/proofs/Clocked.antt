@@ -9,7 +9,7 @@ use native.Mathlib.Omega.{arith}
 use lib.Dec.{eqb, lit<}
 use Rattle.words.specs.Fields.{steps}
 use Rattle.words.specs.Kinds as kind
-use Rattle.words.specs.Kinds.{rows, greatest, allowed, bitsOf}
+use Rattle.words.specs.Kinds.{allowed, bitsOf}
 use Rattle.words.specs.Codec.{wordOf}
 use Rattle.head.specs.Range.{inRange}
 use Rattle.head.specs.Limits.{readoutOf, lengthOf}

@@ -2,7 +2,7 @@
 -- Assumes nothing.
 use mathlib.Core.Path.{_≡_, refl, sym, ap, _∙_}
 use mathlib.Core.Bool.{true}
-use mathlib.Core.List.{List, [], _∷_}
+use mathlib.Core.List.{List, []}
 use Prim.Native.Nat.{ℕ, suc, _+_, _-_, _*_, _≤_, _<_}
 use native.Mathlib.Nat.{add-assoc}
 use native.Mathlib.Omega.{arith}
@@ -13,14 +13,15 @@ use Rattle.plan.specs.Stored.{Plan, orders, refused, byteAt, orderAt, faultAt, 
 use Rattle.plan.specs.Words.{wordsOf, itemsOf, itemsOfAll}
 use Rattle.plan.specs.declared.order.Order.{Order}
 use Rattle.plan.proofs.Accepted.{sound}
+use Rattle.plan.proofs.Laid.{sets-append}
 use Rattle.plan.proofs.Judging.{from-end, from-many, from-fault, from-order}
 use Rattle.schedule.specs.Clock.{Near, early, clockedFrom, clockThrough}
-use Rattle.schedule.specs.Filled.{orderTicks, timedBy, wordTotal, laidOf, wordsLaid, ticksLaid, WhenDone}
+use Rattle.schedule.specs.Filled.{orderTicks, timedBy, wordTotal, laidOf, wordsLaid, ticksLaid}
 use Rattle.schedule.specs.Translate.{tickList, wordList}
 use Rattle.schedule.specs.declared.Translated.{Translated}
 use Rattle.schedule.specs.declared.clock.Clock.{Clock}
 use Rattle.schedule.proofs.Clocked.{clocked-end, near-more}
-use Rattle.schedule.proofs.OrderLaid.{fit-few, words-then, ticks-then, ticks-long, sets-append}
+use Rattle.schedule.proofs.OrderLaid.{fit-few, words-then, ticks-then, ticks-long}
 use Rattle.schedule.proofs.Plans.{near-order}
 
 -- an order, and then the rest of a plan
@@ -35,7 +36,7 @@ module _ (o : Order) (c : Clock) (n : ℕ) where
       → wordsLaid (before o p) c n l ≡ wordsLaid p (clockThrough c (itemsOf o)) (n + length (wordsOf o)) (sets l n (wordsOf o))
   unfolding wordsLaid itemsOfAll
   words-before (orders os) l =
-      ap (sets l n) (words-then c o (itemsOfAll os)) ∙ sets-append l n (wordsOf o) (wordList (timedBy (clockThrough c (itemsOf o)) os))
+      ap (sets l n) (words-then c o (itemsOfAll os)) ∙ sets-append (wordsOf o) (wordList (timedBy (clockThrough c (itemsOf o)) os)) l n
   words-before (refused m q) l = refl
 
   ticks-before : (p : Plan) (l : List ℕ)
@@ -44,7 +45,7 @@ module _ (o : Order) (c : Clock) (n : ℕ) where
   ticks-before (orders os) l =
       let rest = tickList (timedBy (clockThrough c (itemsOf o)) os) in
       ap (sets l n) (ticks-then c o (itemsOfAll os))
-      ∙ sets-append l n (orderTicks c o) rest
+      ∙ sets-append (orderTicks c o) rest l n
       ∙ ap (λ (m : ℕ). sets (sets l n (orderTicks c o)) (n + m) rest) (ticks-long c o (itemsOfAll os))
   ticks-before (refused m q) l = refl
 

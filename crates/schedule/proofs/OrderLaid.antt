@@ -3,27 +3,25 @@
 use mathlib.Core.Path.{_≡_, refl, sym, ap, _∙_}
 use mathlib.Core.Bool.{true}
 use mathlib.Core.List.{List, [], _∷_, _++_, map, map-append}
-use Prim.Native.Nat.{ℕ, zero, suc, _+_, _*_, _≤_, _<_}
-use native.Mathlib.Nat.{add-zero, add-suc, suc-add}
+use Prim.Native.Nat.{ℕ, _+_, _≤_}
 use native.Mathlib.Decide.{ℕ-discrete}
 use native.Mathlib.Omega.{arith}
 use borrow.Author.Tests.{ne-eqb}
-use lib.ListN.{length, take, set, length-map}
-use lib.Seq.{sets}
+use lib.ListN.{length, take, length-map}
 use Rattle.words.specs.Kinds.{bitsOf}
 use Rattle.plan.specs.Codes as code
 use Rattle.plan.specs.Codes.{fit}
-use Rattle.plan.specs.Words.{Item, send, pause, wordsOf, itemsOf, itemsOfAll}
+use Rattle.plan.specs.Words.{Item, send, pause, wordsOf, itemsOf}
 use Rattle.plan.specs.Encoding.{four, wordsCut, listed}
 use Rattle.plan.specs.declared.order.Order.{Order}
 use Rattle.plan.specs.declared.encoding.Words.{Words}
 use Rattle.plan.proofs.Fit.{fit-known}
 use Rattle.plan.proofs.OrderWords.{words-few, fit-cut}
-use Rattle.schedule.specs.Schedule.{Timed, Schedule}
-use Rattle.schedule.specs.Clock.{kindIn, tickFor, clockAfter, clockedFrom, clockThrough}
-use Rattle.schedule.specs.Translate.{wordList, tickList, wordsIn, ticksFrom}
+use Rattle.schedule.specs.Schedule.{Timed}
+use Rattle.schedule.specs.Clock.{kindIn, clockAfter, clockedFrom, clockThrough}
+use Rattle.schedule.specs.Translate.{wordList, tickList, wordsIn}
 use Rattle.schedule.specs.declared.clock.Clock.{Clock}
-use Rattle.schedule.proofs.Clocked.{clocked-list, clocked-end}
+use Rattle.schedule.proofs.Clocked.{clocked-list}
 
 module _ (o : Order) (f : fit o ≡ true) where
   pub fit-few : length (wordsOf o) ≤ 4
@@ -96,7 +94,3 @@ module _ (c : Clock) (o : Order) (js : List Item) where
       length-map (clockedFrom c (itemsOf o) .list) (λ (x : Timed). x .tick)
       ∙ sym (length-map (clockedFrom c (itemsOf o) .list) (λ (x : Timed). x .word))
       ∙ ap length (order-words c o)
-
-pub sets-append : (l : List ℕ) (i : ℕ) (a b : List ℕ) → sets l i (a ++ b) ≡ sets (sets l i a) (i + length a) b
-sets-append l i [] b = rw (add-zero i)
-sets-append l i (x ∷ a) b = rw (add-suc i (length a), ← suc-add i (length a)) (sets-append (set l i x) (suc i) a b)

@@ -9,15 +9,16 @@ use native.Mathlib.Nat.{zero-add}
 use borrow.Author.Tests.{le-leb, lt-leb, not-true, not-false}
 use lib.Dec.{leb}
 use lib.ListN.{length, take, drop, length-map, length-append}
-use lib.Seq.{sets, sets-eq, paste, take-at}
+use lib.Seq.{sets, paste, take-at}
 use Rattle.head.specs.declared.state.Head.{Head}
 use Rattle.plan.specs.Stored.{Plan, orders, refused, headerFault, ordersFrom, mostOrders, planOf, ordersIn}
 use Rattle.plan.specs.Words.{itemsOfAll, wordsOf}
 use Rattle.plan.specs.declared.order.Order.{Order}
 use Rattle.plan.proofs.Accepted.{accepted-fit, accepted-few}
+use Rattle.plan.proofs.Laid.{sets-front}
 use Rattle.plan.proofs.Judging.{plan-header, plan-orders}
 use Rattle.schedule.specs.Clock.{Near, clockOf, clockedFrom, clockThrough}
-use Rattle.schedule.specs.Filled.{timedBy, wordTotal, laidOf, wordsLaid, ticksLaid, WhenDone}
+use Rattle.schedule.specs.Filled.{timedBy, wordTotal, laidOf, wordsLaid, ticksLaid}
 use Rattle.schedule.specs.Schedule.{Timed, Schedule}
 use Rattle.schedule.specs.Translate.{fit, scheduleOf, answerOfPlan, translateOf, filled, tickList, wordList}
 use Rattle.schedule.specs.declared.Translated.{Translated}
@@ -34,9 +35,6 @@ timed-long c (o ∷ os) =
     ap length (words-then c o (itemsOfAll os))
     ∙ length-append (wordsOf o) _
     ∙ ap (λ (n : ℕ). length (wordsOf o) + n) (timed-long (clockThrough c _) os)
-
-pub sets-front : (vs l : List ℕ) → length vs ≤ length l → sets l 0 vs ≡ vs ++ drop (length vs) l
-sets-front vs l h = sets-eq vs l 0 (omega arith) ∙ ap (λ (n : ℕ). vs ++ drop n l) (zero-add (length vs))
 
 -- what was laid is a plan's
 differ : {A : Type 0} → _≡_ {A = ℕ} 0 1 → A

@@ -2,14 +2,13 @@
 -- Assumes nothing.
 use mathlib.Core.Path.{_≡_, refl, sym, ap, _∙_}
 use mathlib.Core.List.{List, [], _∷_, _++_}
-use Prim.Native.Nat.{ℕ, suc, _+_, _≤_, _<_}
+use Prim.Native.Nat.{ℕ, _+_, _≤_, _<_}
 use native.Mathlib.Nat.{add-zero, add-suc}
 use native.Mathlib.Numerals.{add-one}
 use native.Mathlib.Omega.{arith}
 use lib.ListN.{length, getD, drop, set, length-set, length-append, drop-of-length-le}
 use lib.Seq.{sets, drop-cons, length-sets, length-take-le}
-use Rattle.schedule.proofs.OrderLaid.{sets-append}
-use Rattle.schedule.proofs.Translating.{sets-front}
+use Rattle.plan.proofs.Laid.{sets-append, sets-front}
 use Rattle.text.specs.Laid.{Laid, Front}
 
 -- one text after another
@@ -24,7 +23,7 @@ laid-then {l} {at} {a} {p} {m} {b} first next =
           next .bytes
           ∙ ap (λ (x : List ℕ). sets x p b) (first .bytes)
           ∙ ap (λ (x : ℕ). sets (sets l at a) x b) (first .place)
-          ∙ sym (sets-append l at a b);
+          ∙ sym (sets-append a b l at);
     }
 
 -- it leaves the list as long as it was

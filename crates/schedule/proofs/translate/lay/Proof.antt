@@ -1,11 +1,10 @@
 -- `schedule::translate::lay` meets its contract. The loop's invariant: k orders have been judged and laid.
 -- Assumes nothing.
 use mathlib.Core.Path.{_≡_, sym, _∙_}
-use Prim.Native.Nat.{_-_, _<_}
+use Prim.Native.Nat.{_-_}
 use native.Mathlib.Omega.{arith}
 use lib.ListN.{length}
 use borrow.Author.Needs.{needs}
-use denote.Ref.{now}
 use Rattle.plan.proofs.Bytes.{checked-fault, checked-order}
 use Rattle.schedule.proofs.OnePass.{Passing, passing-first, passing-many, passing-fault, passing-fits, passing-within, passing-early, passing-fit-words, passing-fit-ticks, passing-next, passing-end, passing-words, passing-ticks}
 use Rattle.schedule.proofs.translate.lay.Statement.{statement}
