@@ -1,11 +1,11 @@
 -- The head's answer found through the phase and the grid is `answerOf`.
 -- Assumes nothing.
 use mathlib.Core.Path.{_≡_, refl, sym, _∙_, ap}
-use mathlib.Core.Bool.{Bool, true, false, cond, not, _&&_, false≢true, true≢false}
-use Prim.Native.Nat.{ℕ, zero, suc, _<_, _≤_, _-_, _+_, _*_}
+use mathlib.Core.Bool.{Bool, true, false, not, false≢true, true≢false}
+use Prim.Native.Nat.{ℕ, _<_, _-_, _+_, _*_}
 use native.Mathlib.Omega.{arith}
-use borrow.Author.Tests.{lt-ltb, le-ltb, le-leb, lt-leb, eq-eqb, ne-eqb, eqb-true, eqb-false, not-true, not-false}
-use lib.Dec.{ltb, leb, eqb}
+use borrow.Author.Tests.{lt-ltb, le-leb, lt-leb, eqb-true, eqb-false, not-true, not-false}
+use lib.Dec.{ltb, eqb}
 use denote.Enum.Declared.{tagOf}
 use Rattle.words.proofs.Decoded.{the-type}
 use mathlib.Core.Logic.{⊎-elim, _⊎_}
@@ -13,7 +13,6 @@ use Rattle.words.specs.Kinds.{rows, kindFrom, kindOf, kinds, allowed, least, gr
 use Rattle.words.specs.Codec.{decodeOf, judged, encodeOf, wordOf}
 use Rattle.words.specs.declared.Decoded.{Decoded}
 use Rattle.words.specs.declared.Decoded.the-variants.{Word, Unknown, OutOfRange}
-use Rattle.words.specs.declared.Encoded.the-variants.{Made}
 use Rattle.words.proofs.Codec.{decode-encode, decode-read}
 use Rattle.head.proofs.Bounds.{allowed-most}
 use Rattle.words.proofs.Allowed.{allowed-bits}

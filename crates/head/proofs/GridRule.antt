@@ -1,12 +1,12 @@
 -- The rule of the grid: one test computed over all of its entries, and what it says of each.
 -- Assumes nothing.
-use mathlib.Core.Path.{_≡_, refl, sym, ap}
-use mathlib.Core.Bool.{Bool, true, false, cond, _&&_, _||_, not, false≢true}
+use mathlib.Core.Path.{_≡_, refl, sym}
+use mathlib.Core.Bool.{Bool, true, false, cond, _&&_, not}
 use mathlib.Core.List.{List, []}
 use Prim.Native.Nat.{ℕ, zero, suc, _<_, _≤_}
 use native.Mathlib.Omega.{arith}
-use borrow.Author.Tests.{lt-ltb, le-ltb, ltb-true, leb-true, leb-false, ltb-false}
-use lib.Dec.{T, ltb, leb, eqb}
+use borrow.Author.Tests.{le-ltb}
+use lib.Dec.{T, ltb, eqb}
 use lib.ListN.{getD}
 use Rattle.words.proofs.Tables.{left as and-left, right as and-right}
 use Rattle.words.proofs.Tables.{agree, agree-at}

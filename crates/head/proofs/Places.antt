@@ -1,9 +1,9 @@
 -- Laws of a place of the begun mirror set.
 -- Assumes nothing.
-use mathlib.Core.Path.{_≡_, refl, sym, ap}
+use mathlib.Core.Path.{_≡_, refl}
 use mathlib.Core.Bool.{Bool, true, false, cond, _&&_, _||_}
-use Prim.Native.Nat.{ℕ, zero, suc, _<_, _≤_}
-use lib.Dec.{T, ltb, leb, eqb, leb·zero, eqb·suc-zero}
+use Prim.Native.Nat.{ℕ, zero, suc}
+use lib.Dec.{leb, eqb, leb·zero, eqb·suc-zero}
 use Rattle.words.specs.Kinds.{rows, least, greatest, allowed}
 use Rattle.head.specs.Range.{place, all, begunTests}
 use Rattle.head.specs.declared.state.Begun.{Begun}

@@ -1,7 +1,7 @@
 -- Document 01, "The head": what a word that is taken does, part by part of the state. Its kind is k and its data b.
 -- Assumes nothing.
 use Prim.Native.Nat.{ℕ, _*_}
-use mathlib.Core.Bool.{Bool, cond, not, _&&_, _||_}
+use mathlib.Core.Bool.{cond, _&&_, _||_}
 use lib.Dec.{eqb}
 use Rattle.words.specs.Fields.{joined, direction, steps}
 use Rattle.words.specs.Kinds as kind

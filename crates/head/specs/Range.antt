@@ -12,7 +12,6 @@ use Rattle.head.specs.declared.state.Settings.{Settings}
 use Rattle.head.specs.declared.state.Latches.{Latches}
 use Rattle.head.specs.declared.state.Motion.{Motion}
 use Rattle.head.specs.declared.state.Begun.{Begun}
-use Rattle.head.specs.declared.state.Work.{Work}
 use Rattle.head.specs.declared.state.Task.{Task}
 use Rattle.head.specs.declared.state.Task.the-variants.{Idle, Acquisition, Housekeeping}
 use Rattle.head.specs.declared.state.Head.{Head}

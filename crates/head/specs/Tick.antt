@@ -1,8 +1,8 @@
 -- Document 01, "The head": a tick.
 -- Assumes nothing.
 use Prim.Native.Nat.{ℕ, zero, suc, _-_}
-use mathlib.Core.Bool.{cond, not}
-use lib.Dec.{eqb, ltb}
+use mathlib.Core.Bool.{cond}
+use lib.Dec.{eqb}
 use Rattle.head.specs.Range.{inRange}
 use Rattle.head.specs.State.{noFlags}
 use Rattle.head.specs.declared.state.Flags.{Flags}
@@ -10,7 +10,6 @@ use Rattle.head.specs.declared.state.Work.{Work}
 use Rattle.head.specs.declared.state.Task.the-variants.{Idle}
 use Rattle.head.specs.declared.state.Motion.{Motion}
 use Rattle.head.specs.declared.state.Head.{Head}
-use Rattle.head.specs.declared.tick.Due.{Due}
 use Rattle.head.specs.declared.tick.Due.the-variants.{Nothing, Blocks, Refused}
 use Rattle.head.specs.declared.tick.Ticked.{Ticked}
 

@@ -1,10 +1,10 @@
 -- Document 01, "The head": its answer to a word, in the order of the checks.
 -- Assumes nothing.
-use Prim.Native.Nat.{ℕ, suc, _-_}
+use Prim.Native.Nat.{ℕ, _-_}
 use mathlib.Core.Bool.{Bool, cond, not, _&&_}
 use lib.Dec.{eqb, ltb}
 use Rattle.words.specs.Kinds as kind
-use Rattle.words.specs.Codec.{decodeOf, wordOf}
+use Rattle.words.specs.Codec.{decodeOf}
 use Rattle.words.specs.declared.Decoded.{Decoded}
 use Rattle.words.specs.declared.Decoded.the-variants.{Word, Unknown, OutOfRange}
 use Rattle.head.specs.Range.{inRange}

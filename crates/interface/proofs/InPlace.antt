@@ -1,39 +1,31 @@
 -- Laws of the head's answers worked on the array: what a valid array is bounded by, and that the numbers stored are those of the head's
 -- own answers.
 -- Assumes nothing.
-use mathlib.Core.Path.{_≡_, refl, sym, subst, _∙_, ap}
-use mathlib.Core.Bool.{Bool, true, false, cond, not, _&&_, _||_}
+use mathlib.Core.Path.{_≡_, refl, sym, subst, _∙_}
+use mathlib.Core.Bool.{Bool, true, false, not, _&&_}
 use mathlib.Core.List.{List, [], _∷_}
-use Prim.Native.Nat.{ℕ, _+_, _-_, _*_, _<_, _≤_}
+use Prim.Native.Nat.{ℕ, _-_, _<_, _≤_}
 use native.Mathlib.Decide.{ℕ-discrete}
 use native.Mathlib.Omega.{arith}
-use borrow.Author.Tests.{eq-eqb, ne-eqb, lt-ltb, le-ltb, le-leb, lt-leb, not-true, not-false}
+use borrow.Author.Tests.{not-true, not-false}
 use lib.Arith.{lt-of-le-ne}
-use lib.Dec.{eqb, ltb, leb}
-use lib.ListN.{length, set}
+use lib.Dec.{eqb}
+use lib.ListN.{length}
 use lib.Seq.{sets}
 use mir.Syntax.{w16}
 use mir.Val.{Fits}
-use Rattle.words.specs.Fields.{joined}
-use Rattle.words.specs.declared.Decoded.{Decoded}
-use Rattle.words.specs.declared.Decoded.the-variants.{Word, Unknown, OutOfRange}
-use Rattle.words.specs.Codec.{decodeOf}
 use Rattle.words.proofs.Tests.{and-left, and-right}
 use Rattle.head.specs.State.{noneBegun, noFlags}
 use Rattle.head.specs.Range.{all, registerTests, latchTests, motionTests, begunTests, workInRange, inRange}
 use Rattle.head.specs.Limits.{lengthBy, lengthOf}
-use Rattle.head.specs.Flags.{timeBoth, timeIr, wordBoth, scanned, mirrorWord, outOfRangeFlags}
-use Rattle.head.specs.Apply.{after, actOf}
-use Rattle.head.specs.Word.{marked, outOfTurn, onWord, onDecoded, stopWord, answerOf}
+use Rattle.head.specs.Apply.{after}
+use Rattle.head.specs.Word.{marked}
 use Rattle.head.specs.Tick.{moved}
-use Rattle.head.specs.Numbers.{actNumber, causeNumber, outcomeNumber}
 use Rattle.head.specs.declared.state.Head.{Head}
 use Rattle.head.specs.declared.state.Flags.{Flags}
 use Rattle.head.specs.declared.state.Task.the-variants.{Idle}
-use Rattle.head.specs.declared.word.Act.{Act}
 use Rattle.head.proofs.Bounds.{Bounds, bounds, length-bounds}
-use Rattle.interface.specs.State.{places, at, taskNumber, taskOf, flagsOf, flagNumbers, numbersOf, stateOf, wellFormed, valid}
-use Rattle.interface.specs.Stepping.{flagBits, dueAnswer}
+use Rattle.interface.specs.State.{places, at, flagNumbers, numbersOf, stateOf, wellFormed, valid}
 use Rattle.interface.specs.InPlace.{registers, registerOf, controlled, mirrored, remaining, placed}
 use Rattle.interface.proofs.RoundTrip.{well-formed-length, numbers-state}
 

@@ -1,6 +1,6 @@
 -- The numbers of the answers whose variants hold values.
 -- Assumes nothing.
-use mathlib.Core.Path.{_≡_, refl, _∙_}
+use mathlib.Core.Path.{_≡_}
 use Prim.Native.Nat.{ℕ, _+_, _*_}
 use native.Mathlib.Omega.{arith}
 use Rattle.words.specs.Codec.{decodedNumber, encodedNumber}
@@ -14,7 +14,7 @@ use Rattle.head.specs.declared.word.Act.the-variants.{Cover}
 use Rattle.head.specs.declared.word.Cause.{Cause}
 use Rattle.head.specs.declared.word.Outcome.{Outcome}
 use Rattle.head.specs.declared.word.Outcome.the-variants.{Taken, Ignored}
-use Rattle.blocks.specs.Numbers.{refusalNumber, refusalPlace, writtenNumber}
+use Rattle.blocks.specs.Numbers.{refusalNumber, writtenNumber}
 use Rattle.blocks.specs.declared.refusal.Refusal.{Refusal}
 use Rattle.blocks.specs.declared.written.Written.{Written}
 use Rattle.blocks.specs.declared.written.Written.the-variants.{Refused}

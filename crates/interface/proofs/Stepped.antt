@@ -1,14 +1,14 @@
 -- The ways through the functions that work words and ticks on the array: l is the array as it was given, after as it is left, r what is
 -- answered.
 -- Assumes nothing.
-use mathlib.Core.Path.{_≡_, refl, sym, _∙_, ap}
-use mathlib.Core.Bool.{Bool, true, false, cond, not, _&&_}
+use mathlib.Core.Path.{_≡_, refl, sym, _∙_}
+use mathlib.Core.Bool.{Bool, true, false, not, _&&_}
 use mathlib.Core.List.{List, [], _∷_}
 use Prim.Native.Nat.{ℕ, _+_, _-_, _*_, _<_, _≤_}
 use native.Mathlib.Omega.{arith}
 use borrow.Author.Tests.{eq-eqb, ne-eqb, lt-ltb, le-ltb, le-leb, lt-leb, leb-true}
 use lib.Dec.{T, eqb, ltb, leb}
-use lib.ListN.{length, getD, set, List·getD-eq-default}
+use lib.ListN.{getD, set, List·getD-eq-default}
 use lib.Seq.{sets}
 use mir.Syntax.{w64}
 use mir.Val.{Fits}
@@ -18,11 +18,10 @@ use Rattle.words.specs.declared.Decoded.{Decoded}
 use Rattle.words.specs.declared.Decoded.the-variants.{Word, Unknown, OutOfRange}
 use Rattle.words.proofs.Tables.{tabulates, tabulates-at, below, below-at}
 use Rattle.words.proofs.Tests.{and-left, and-right}
-use Rattle.head.specs.State.{noneBegun, noFlags}
+use Rattle.head.specs.State.{noneBegun}
 use Rattle.head.specs.Limits.{lengthBy, hkTicks, mirrorTicks, coverStepTicks}
-use Rattle.head.specs.Flags.{timeBoth, timeIr, wordBoth, scanned, mirrorWord, outOfRangeFlags}
-use Rattle.head.specs.Apply.{after, actOf}
-use Rattle.head.specs.ByGrid.{isWord}
+use Rattle.head.specs.Flags.{timeBoth, timeIr, wordBoth, scanned, outOfRangeFlags}
+use Rattle.head.specs.Apply.{actOf}
 use Rattle.head.specs.Word.{marked, outOfTurn, onWord, onDecoded, stopWord, answerOf}
 use Rattle.head.specs.Tick.{passed}
 use Rattle.head.specs.Numbers.{actNumber, causeNumber, outcomeNumber}

@@ -1,8 +1,8 @@
 -- The ways through the exported writers: n is the block's length and count that of its readings, l the state's array, old the buffer
 -- as it was given.
 -- Assumes nothing.
-use mathlib.Core.Path.{_≡_, refl, sym, _∙_, ap}
-use mathlib.Core.Bool.{Bool, true, false, cond, not, _&&_}
+use mathlib.Core.Path.{_≡_, sym, _∙_}
+use mathlib.Core.Bool.{Bool, true, false, not}
 use mathlib.Core.List.{List}
 use Prim.Native.Nat.{ℕ}
 use borrow.Author.Tests.{eq-eqb, ne-eqb, not-true, not-false}
@@ -16,7 +16,7 @@ use Rattle.blocks.specs.Ir.{irWords, irReadings, irBlockOf}
 use Rattle.blocks.specs.Ccd.{ccdWords, ccdReadings, ccdBlockOf}
 use Rattle.blocks.specs.declared.refusal.Refusal.the-variants.{Length, State}
 use Rattle.blocks.specs.declared.written.Written.{Written}
-use Rattle.blocks.specs.declared.written.Written.the-variants.{Done, Refused}
+use Rattle.blocks.specs.declared.written.Written.the-variants.{Refused}
 use Rattle.blocks.specs.declared.ir.IrBits.{IrBits}
 use Rattle.blocks.specs.declared.ccd.CcdBits.{CcdBits}
 use Rattle.interface.specs.State.{stateOf, wellFormed, valid}

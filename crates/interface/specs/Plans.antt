@@ -3,8 +3,7 @@
 use Prim.Native.Nat.{ℕ, _+_, _*_, _<_, _^_}
 use mathlib.Core.Bool.{cond}
 use mathlib.Core.List.{List}
-use lib.ListN.{length}
-use Rattle.schedule.specs.Translate.{translateOf, translatedNumber, translatedPlace}
+use Rattle.schedule.specs.Translate.{translateOf, translatedNumber}
 use Rattle.schedule.specs.declared.Translated.{Translated}
 use Rattle.schedule.specs.declared.Translated.the-variants.{Done, Refused, Short}
 use Rattle.interface.specs.State.{stateOf, wellFormed}

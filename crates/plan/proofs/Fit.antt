@@ -9,7 +9,7 @@ use native.Mathlib.Omega.{arith}
 use borrow.Author.Tests.{ne-eqb, le-leb, leb-true}
 use lib.Arith.{lt-of-le-ne}
 use lib.Dec.{leb, leb·zero, eqb}
-use lib.ListN.{getD, List·getD-eq-default}
+use lib.ListN.{List·getD-eq-default}
 use Rattle.words.proofs.Tests.{and-left, and-right}
 use Rattle.plan.specs.Codes as code
 use Rattle.plan.specs.Codes.{Range, _to_, rows, rowOf, holds, within, fieldsOf, related, recoded, fieldsFit, known, fit, window, mirror, cover}

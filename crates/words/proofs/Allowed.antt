@@ -1,6 +1,6 @@
 -- Laws of `allowed`: how tables decide it, and what allowed data are bounded by.
 -- Assumes nothing.
-use mathlib.Core.Path.{_≡_, refl, sym, subst, _∙_}
+use mathlib.Core.Path.{_≡_, refl, sym, _∙_}
 use mathlib.Core.Bool.{Bool, true, false, not, _&&_, _||_, false≢true}
 use mathlib.Core.List.{List}
 use Prim.Native.Nat.{ℕ, zero, suc, _<_, _≤_, _%_}
@@ -10,7 +10,7 @@ use native.Mathlib.Omega.{arith}
 use borrow.Author.Tests.{lt-leb, leb-true}
 use lib.Dec.{T, leb, eqb, lit<}
 use lib.ListN.{getD, List·getD-eq-default}
-use Rattle.words.specs.Kinds.{rows, row, least, greatest, allowed, cover, mostSteps, rowOf, kinds}
+use Rattle.words.specs.Kinds.{rows, row, least, greatest, allowed, cover, mostSteps, rowOf}
 use Rattle.words.proofs.Tests.{and-left, and-right}
 use Rattle.words.proofs.Tables.{tabulates, tabulates-at}
 

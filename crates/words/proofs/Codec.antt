@@ -1,22 +1,20 @@
 -- Laws of the decoder and the encoder: how a table of kinds decodes, and the two round trips.
 -- Assumes nothing.
-use mathlib.Core.Path.{_≡_, refl, sym, subst, _∙_, ap}
+use mathlib.Core.Path.{_≡_, refl, sym, _∙_, ap}
 use mathlib.Core.Bool.{Bool, true, false, cond}
 use mathlib.Core.List.{List}
-use Prim.Native.Nat.{ℕ, _+_, _*_, _<_, _≤_, _/_, _%_}
+use Prim.Native.Nat.{ℕ, _+_, _*_, _<_, _≤_, _/_}
 use native.Mathlib.Nat.{div-add-mod'}
 use native.Mathlib.Omega.{arith}
 use borrow.Author.Tests.{lt-ltb, le-ltb, ltb-true}
 use lib.Arith.{digits-div, digits-mod}
-use lib.Dec.{T, ltb, lit<}
+use lib.Dec.{T, ltb}
 use mir.Syntax.{w16}
 use mir.Val.{Fits}
 use lib.ListN.{getD}
 use Rattle.words.specs.Kinds.{rows, rowOf, kindFrom, kindOf, allowed, identifier, bitsOf, kinds}
 use Rattle.words.specs.Codec.{decodeOf, judged, encodeOf, wordOf}
-use Rattle.words.specs.declared.Decoded.{Decoded}
 use Rattle.words.specs.declared.Decoded.the-variants.{Word, Unknown, OutOfRange}
-use Rattle.words.specs.declared.Encoded.{Encoded}
 use Rattle.words.specs.declared.Encoded.the-variants.{Made, Refused}
 use Rattle.words.proofs.Allowed.{allowed-kind, allowed-bits}
 use Rattle.words.proofs.Tables.{agree, agree-at, tabulates, tabulates-at, below, below-at}

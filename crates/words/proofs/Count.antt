@@ -1,6 +1,6 @@
 -- In all 9,133 of the 65,536 words are allowed. antt counts them identifier by identifier: the kind is looked up once for 1,024 words.
 -- Assumes nothing.
-use mathlib.Core.Path.{_≡_, refl, sym, _∙_, ap}
+use mathlib.Core.Path.{_≡_, refl, sym}
 use mathlib.Core.Bool.{Bool, true, false, cond}
 use Prim.Native.Nat.{ℕ, zero, suc, _+_, _*_, _<_, _≤_}
 use native.Mathlib.Nat.{add-zero, zero-add, add-suc, add-assoc, suc-mul}
@@ -8,7 +8,7 @@ use native.Mathlib.Omega.{arith}
 use borrow.Author.Tests.{ltb-false}
 use lib.Arith.{digits-div, digits-mod}
 use lib.Dec.{ltb}
-use Rattle.words.specs.Kinds.{rows, least, greatest, allowed, kindFrom, kindOf, kinds, identifier, bitsOf}
+use Rattle.words.specs.Kinds.{rows, least, greatest, allowed, kindFrom, kindOf, kinds}
 use Rattle.words.specs.Codec.{decodeOf, judged}
 use Rattle.words.specs.Count.{one, allowedBelow}
 use Rattle.words.specs.declared.Decoded.the-variants.{Unknown}

@@ -1,7 +1,7 @@
 -- Document 01, "The words": what a word means, and the word of a meaning.
 -- Assumes nothing.
 use Prim.Native.Nat.{ℕ, _+_, _*_}
-use mathlib.Core.Bool.{Bool, cond}
+use mathlib.Core.Bool.{cond}
 use lib.Dec.{ltb}
 use Rattle.words.specs.Kinds.{rowOf, identifier, bitsOf, allowed, kindOf, kinds}
 use Rattle.words.specs.declared.Decoded.{Decoded}

@@ -1,5 +1,5 @@
 use borrow.Author.Needs.{needs}
-use Rattle.words.specs.Kinds.{least, greatest, rows}
+use Rattle.words.specs.Kinds.{least, greatest}
 use Rattle.words.proofs.Allowed.{allowed-none, allowed-by}
 use Rattle.words.proofs.allows.Statement.{statement}
 use Rattle.words.proofs.allows.Tie as tie

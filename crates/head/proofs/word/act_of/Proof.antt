@@ -1,6 +1,6 @@
 -- `head::word::act_of` meets its contract.
 -- Assumes nothing.
-use borrow.Author.Tests.{eq-eqb, ne-eqb}
+use borrow.Author.Tests.{ne-eqb}
 use Rattle.head.specs.Apply.{actOf}
 use Rattle.head.proofs.word.act_of.Statement.{statement}
 use Rattle.head.proofs.word.act_of.Tie as tie

@@ -1,7 +1,7 @@
 -- `head::word::out_of_turn` meets its contract.
 -- Assumes nothing.
 use native.Mathlib.Omega.{arith}
-use borrow.Author.Tests.{lt-ltb, le-ltb, le-leb, lt-leb}
+use borrow.Author.Tests.{lt-ltb, le-ltb, le-leb}
 use Rattle.head.specs.Word.{outOfTurn}
 use Rattle.head.proofs.Findings.{past-mirror}
 use borrow.Author.Needs.{needs}

@@ -4,7 +4,7 @@ use borrow.Author.Needs.{needs}
 use mathlib.Core.Path.{_≡_}
 use Prim.Native.Nat.{_+_, _-_, _≤_}
 use native.Mathlib.Nat.{add-zero}
-use lib.ListN.{length, drop, length-set}
+use lib.ListN.{length, drop}
 use lib.Seq.{sets}
 use Rattle.interface.proofs.Storing.{put-more, put-all}
 use Rattle.interface.proofs.state.put.Statement.{statement}

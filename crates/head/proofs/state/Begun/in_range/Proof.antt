@@ -1,8 +1,6 @@
 -- `head::state::Begun::in_range` meets its contract: each place is decided as `place-by` says.
 -- Assumes nothing.
-use mathlib.Core.Path.{refl}
 use Rattle.words.specs.Kinds.{rows, least, greatest}
-use Rattle.head.specs.Range.{all, begunTests}
 use Rattle.head.proofs.Places.{begun-by}
 use Rattle.head.proofs.state.Begun.in_range.Statement.{statement}
 use Rattle.head.proofs.state.Begun.in_range.Tie as tie
