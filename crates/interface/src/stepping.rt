@@ -1,6 +1,7 @@
 // The head's answers to words and ticks, worked on the array itself: only the numbers that change are stored.
 use crate::answers::act_number;
 use crate::answers::blocks_number;
+use crate::layout;
 use crate::state::PLACES;
 use crate::state::flag_numbers;
 use crate::state::flags_of;
@@ -77,17 +78,17 @@ pub(crate) fn tick(s: &mut [u16]) -> u32
     ensures { λ r. ⌜ r ≡ dueAnswer (passed (stateOf (now (s .entry))) .due) ⌝ }
     ensures { λ _. ⌜ now (s .exit) ≡ numbersOf (passed (stateOf (now (s .entry))) .head) ⌝ }
 {
-    let busy = s[28];
-    let mirror = down(s[29]);
-    let cover = down(s[30]);
+    let busy = s[layout::BUSY];
+    let mirror = down(s[layout::MIRROR]);
+    let cover = down(s[layout::COVER]);
     if busy == 1 {
-        let answer = blocks_number(task_of(s[27]), flags_of(s));
+        let answer = blocks_number(task_of(s[layout::TASK]), flags_of(s));
         let after = [0, 0, 0, 0, 0, 0, 0, mirror, cover];
-        put(s, 22, &after);
+        put(s, layout::FLAGS, &after);
         return answer;
     }
     let after = [down(busy), mirror, cover];
-    put(s, 28, &after);
+    put(s, layout::BUSY, &after);
     0
 }
 
@@ -145,7 +146,7 @@ fn put_flags(s: &mut [u16], flags: Flags)
     ensures { λ _. ⌜ now (s .exit) ≡ sets (now (s .entry)) 22 (flagNumbers flags) ⌝ }
 {
     let numbers = flag_numbers(flags);
-    put(s, 22, &numbers);
+    put(s, layout::FLAGS, &numbers);
 }
 
 // Stores a begun set.
@@ -154,7 +155,7 @@ fn put_set(s: &mut [u16], count: u16, sinm: u16, sinl: u16, cosm: u16)
     ensures { λ _. ⌜ now (s .exit) ≡ sets (now (s .entry)) 31 (count ∷ sinm ∷ sinl ∷ cosm ∷ []) ⌝ }
 {
     let set = [count, sinm, sinl, cosm];
-    put(s, 31, &set);
+    put(s, layout::BEGUN, &set);
 }
 
 // Stores a task, and the ticks that it keeps the head busy.
@@ -163,7 +164,7 @@ fn put_work(s: &mut [u16], task: u16, busy: u16)
     ensures { λ _. ⌜ now (s .exit) ≡ sets (now (s .entry)) 27 (task ∷ busy ∷ []) ⌝ }
 {
     let work = [task, busy];
-    put(s, 27, &work);
+    put(s, layout::TASK, &work);
 }
 
 // START, HK, STOP and NOP.
@@ -172,7 +173,13 @@ fn control(s: &mut [u16], kind: u8)
     ensures { λ _. ⌜ now (s .exit) ≡ controlled (now (s .entry)) kind ⌝ }
 {
     if kind == START {
-        let ticks = acquisition_ticks(s[1], s[4], s[5], s[6], s[7]);
+        let ticks = acquisition_ticks(
+            s[layout::MODE],
+            s[layout::IR_DELAY],
+            s[layout::IR_EXPO],
+            s[layout::CCD_DELAY],
+            s[layout::CCD_EXPO],
+        );
         put_work(s, 1, ticks as u16);
         return;
     }
@@ -191,10 +198,13 @@ fn point(s: &mut [u16], bits: u16)
     requires { ⌜ Valid (now s) ⌝ ∗ ⌜ bits < 1024 ⌝ }
     ensures { λ _. ⌜ now (s .exit) ≡ mirrored (now (s .entry)) 25 bits ⌝ }
 {
-    let pair = [joined(s[32], s[33]), joined(s[34], bits)];
-    put(s, 16, &pair);
+    let pair = [
+        joined(s[layout::SIN_M], s[layout::SIN_L]),
+        joined(s[layout::COS_M], bits),
+    ];
+    put(s, layout::SINE, &pair);
     put_set(s, 0, 0, 0, 0);
-    s[29] = Head::MIRROR_TICKS;
+    s[layout::MIRROR] = Head::MIRROR_TICKS;
 }
 
 // A mirror word in turn.
@@ -202,8 +212,8 @@ fn mirror(s: &mut [u16], kind: u8, bits: u16)
     requires { ⌜ Valid (now s) ⌝ ∗ ⌜ 22 ≤ kind ⌝ ∗ ⌜ kind ≤ 25 ⌝ ∗ ⌜ bits < 1024 ⌝ }
     ensures { λ _. ⌜ now (s .exit) ≡ mirrored (now (s .entry)) kind bits ⌝ }
 {
-    let sinm = s[32];
-    let sinl = s[33];
+    let sinm = s[layout::SIN_M];
+    let sinl = s[layout::SIN_L];
     match kind {
         SIN_M => put_set(s, 1, bits, 0, 0),
         SIN_L => put_set(s, 2, sinm, bits, 0),
@@ -219,19 +229,19 @@ fn other(s: &mut [u16], kind: u8, bits: u16)
 {
     match kind {
         VDETCOM_L => {
-            s[2] = joined(s[20], bits);
+            s[layout::VDETCOM] = joined(s[layout::VDETCOM_LATCH], bits);
         }
         VDETADJ_L => {
-            s[3] = joined(s[21], bits);
+            s[layout::VDETADJ] = joined(s[layout::VDETADJ_LATCH], bits);
         }
         COVER => {
-            s[19] = bits / 512;
-            s[30] = Head::COVER_STEP_TICKS * (bits % 128);
+            s[layout::DIRECTION] = bits / 512;
+            s[layout::COVER] = Head::COVER_STEP_TICKS * (bits % 128);
         }
         _ => {
-            s[18] = bits;
+            s[layout::SWITCH] = bits;
             if bits == 0 {
-                s[29] = Head::MIRROR_TICKS;
+                s[layout::MIRROR] = Head::MIRROR_TICKS;
                 return;
             }
         }
@@ -267,12 +277,12 @@ fn known_word(s: &mut [u16], kind: u8, bits: u16) -> u32
     ensures { λ _. ⌜ now (s .exit) ≡ numbersOf (onWord (stateOf (now (s .entry))) kind bits .head) ⌝ }
 {
     let flags = flags_of(s);
-    let moving = (kind == COVER) & (0 < s[30]);
+    let moving = (kind == COVER) & (0 < s[layout::COVER]);
     if moving {
         put_flags(s, flags.time_ir());
         return 22;
     }
-    if out_of_turn(s[31], kind) {
+    if out_of_turn(s[layout::BEGUN], kind) {
         put_flags(s, flags.scanned());
         put_set(s, 0, 0, 0, 0);
         return 25;
@@ -318,7 +328,7 @@ pub(crate) fn word(s: &mut [u16], word: u16) -> u32
     ensures { λ r. ⌜ r ≡ outcomeNumber (answerOf (stateOf (now (s .entry))) word .outcome) ⌝ }
     ensures { λ _. ⌜ now (s .exit) ≡ numbersOf (answerOf (stateOf (now (s .entry))) word .head) ⌝ }
 {
-    let waits = (0 < s[28]) & (word != STOP_WORD);
+    let waits = (0 < s[layout::BUSY]) & (word != STOP_WORD);
     if waits {
         let flags = flags_of(s);
         put_flags(s, flags.time_both());
