@@ -10,8 +10,8 @@ use native.Mathlib.Omega.{arith}
 use borrow.Author.Tests.{eq-eqb, ne-eqb, lt-ltb, le-ltb, eqb-true}
 use lib.Dec.{T, eqb}
 use lib.ListN.{length, List·getD-eq-default}
-use Rattle.plan.specs.Codes.{rows, countOf, widthOf, known, lengthOf, fieldsFit}
-use Rattle.plan.specs.Stored.{byteAt, pairAt, valueAt, reach, fieldAt, fieldsAt, orderAt, faultAt}
+use Rattle.plan.specs.Codes.{countOf, widthOf, known, lengthOf, fieldsFit}
+use Rattle.plan.specs.Stored.{byteAt, valueAt, reach, fieldAt, fieldsAt, orderAt, faultAt}
 use Rattle.plan.specs.Judged.{faulty, checkedAt}
 use Rattle.plan.specs.declared.order.Order.{Order}
 use Rattle.plan.specs.declared.stored.Checked.{Checked}
@@ -21,21 +21,6 @@ use Rattle.plan.proofs.Rows.{width-some}
 pub byte-past : (bs : List ℕ) (i : ℕ) → length bs ≤ i → 0 ≡ byteAt bs i
 byte-past bs i h = sym (List·getD-eq-default bs 0 {n = i} h)
 
--- the three ways to a field
-module _ (bs : List ℕ) (at code i count width r : ℕ) (is-count : count ≡ countOf code) where
-  pub field-none : count ≤ i → 0 ≡ fieldAt bs at code i
-  unfolding fieldAt
-  field-none h = rw (← is-count, le-ltb i count h)
-
-  module _ (has : i < count) (is-width : width ≡ widthOf code) where
-    pub field-two : width ≡ 2 → r ≡ pairAt bs (at + 2 * i) → r ≡ fieldAt bs at code i
-    unfolding fieldAt
-    field-two h is = rw (← is-count, lt-ltb i count has, ← is-width, eq-eqb width 2 h) is
-
-    pub field-one : (width ≡ 2 → ⊥) → r ≡ byteAt bs (at + i) → r ≡ fieldAt bs at code i
-    unfolding fieldAt
-    field-one h is = rw (← is-count, lt-ltb i count has, ← is-width, ne-eqb width 2 h) is
-
 -- the fields of a code, all there, one after another
 module _ (bs : List ℕ) (at code : ℕ) {width count : ℕ} (is-width : width ≡ widthOf code) (is-count : count ≡ countOf code) where
   pub field-value : {i r : ℕ} → i < count → r ≡ valueAt bs at (eqb width 2) i → r ≡ fieldAt bs at code i
@@ -43,7 +28,8 @@ module _ (bs : List ℕ) (at code : ℕ) {width count : ℕ} (is-width : width �
   field-value {i} has is = rw (← is-count, lt-ltb i count has, ← is-width) is
 
   pub field-past : {i : ℕ} → count ≤ i → 0 ≡ fieldAt bs at code i
-  field-past {i} h = field-none bs at code i count width 0 is-count h
+  unfolding fieldAt
+  field-past {i} h = rw (← is-count, le-ltb i count h)
 
   pub field-reach : (i : ℕ) {n : ℕ} → at + widthOf code * countOf code ≤ n → i < count → at + reach (eqb width 2) i ≤ n
   field-reach i {n} room has = go (ℕ-discrete width 2)
@@ -55,18 +41,6 @@ module _ (bs : List ℕ) (at code : ℕ) {width count : ℕ} (is-width : width �
   pub fields-read : {a b c d : ℕ} → a ≡ fieldAt bs at code 0 → b ≡ fieldAt bs at code 1 → c ≡ fieldAt bs at code 2 → d ≡ fieldAt bs at code 3
       → record { code = code; a = a; b = b; c = c; d = d } ≡ fieldsAt bs at code
   fields-read ia ib ic id = rw (ia, ib, ic, id)
-
--- past the end the order is all 0
-pub order-past : (bs : List ℕ) (at : ℕ) → length bs ≤ at → record { code = 0; a = 0; b = 0; c = 0; d = 0 } ≡ orderAt bs at
-unfolding orderAt fieldAt countOf rows
-order-past bs at h = rw (← byte-past bs (at + 1) (omega arith))
-
--- the order read field by field
-pub order-read : (bs : List ℕ) (at k a b c d : ℕ) → k ≡ byteAt bs (at + 1)
-    → a ≡ fieldAt bs (at + 2) k 0 → b ≡ fieldAt bs (at + 2) k 1 → c ≡ fieldAt bs (at + 2) k 2 → d ≡ fieldAt bs (at + 2) k 3
-    → record { code = k; a = a; b = b; c = c; d = d } ≡ orderAt bs at
-unfolding orderAt
-order-read bs at k a b c d ik ia ib ic id = rw (ia, ib, ic, id, ik)
 
 -- the ways to a fault, and the one past them all
 pub fault-none : (bs : List ℕ) (at : ℕ) → length bs ≤ at → 5 ≡ faultAt bs at

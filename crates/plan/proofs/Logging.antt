@@ -12,17 +12,19 @@ use Rattle.head.specs.declared.state.Settings.{Settings}
 use Rattle.plan.specs.Codes as code
 use Rattle.plan.specs.Codes.{is, fit}
 use Rattle.plan.specs.Stored.{Plan, orders, refused, byteAt, orderAt, planOf, ordersIn}
-use Rattle.plan.specs.Judged.{judgedOf}
+use Rattle.plan.specs.Judged.{judgedOf, checkedAt}
 use Rattle.plan.specs.Reading.{exposure, request, coverMove, settingsBy, entriesBy, settingsRead, logRead}
 use Rattle.plan.specs.Rows.{rowsOf, endRow, recordOf}
 use Rattle.plan.specs.Read.{readOf, readRecord, atFront}
 use Rattle.plan.specs.declared.order.Order.{Order}
+use Rattle.plan.specs.declared.stored.Checked.{Checked}
 use Rattle.plan.specs.declared.stored.Judged.{Judged}
 use Rattle.plan.specs.declared.reading.Read.{Read}
 use Rattle.plan.specs.declared.reading.Read.the-variants.{Accepted, Refused}
 use Rattle.plan.proofs.Accepted.{judged-accepted, judged-refused, accepted-few}
+use Rattle.plan.proofs.Bytes.{checked-fault, checked-order}
 use Rattle.plan.proofs.Recorded.{record-long, record-next, record-last, record-front}
-use Rattle.plan.proofs.Walking.{Walking, walking-first, walking-order, walking-sound, walking-next}
+use Rattle.plan.proofs.Walking.{Walking, walking-first, walking-order, walking-whole, walking-sound, walking-next}
 
 -- the act of an order, by its code
 module _ (r : Settings) (o : Order) where
@@ -87,6 +89,9 @@ module _ {rows₀ bs : List ℕ} {os : List Order} {count : ℕ} {start : Settin
 
       pub logging-room : acts < 64
       logging-room = let few = h .few in let most = h .walk .few in omega (arith, some)
+
+      pub logging-order : {r : Checked} → r ≡ checkedAt bs at → r .order ≡ orderAt bs at
+      logging-order is = checked-order bs at is (checked-fault bs at is ∙ walking-whole bs os at k (h .walk) some)
 
       pub logging-fits : fit (orderAt bs at) ≡ true
       logging-fits = walking-sound bs os at k (h .walk) some .fits

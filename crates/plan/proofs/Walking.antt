@@ -7,7 +7,7 @@ use native.Mathlib.Omega.{arith}
 use native.Mathlib.Decide.{decLt}
 use lib.ListN.{length, drop, length-drop}
 use lib.Seq.{drop-drop}
-use Rattle.plan.specs.Stored.{orders, byteAt, orderAt, ordersFrom, planOf}
+use Rattle.plan.specs.Stored.{orders, byteAt, orderAt, faultAt, ordersFrom, planOf}
 use Rattle.plan.specs.declared.order.Order.{Order}
 use Rattle.plan.proofs.Accepted.{Sound, sound, orders-sound, orders-first, orders-rest, orders-done, accepted-orders, accepted-few, accepted-header}
 
@@ -45,8 +45,11 @@ module _ (bs : List ℕ) (os : List Order) (at k : ℕ) (w : Walking bs os at k)
       orders-first bs at (64 - k) (drop k os) (w .rest) bytes (63 - k) step
       ∙ ap (λ (l : List Order). orderAt bs at ∷ l) (drop-drop 1 k os)
 
+  pub walking-whole : faultAt bs at ≡ 0
+  walking-whole = orders-sound bs at (64 - k) (drop k os) (w .rest) bytes
+
   pub walking-sound : Sound bs at
-  walking-sound = sound bs at (orders-sound bs at (64 - k) (drop k os) (w .rest) bytes)
+  walking-sound = sound bs at walking-whole
 
   pub walking-next : Walking bs os (at + 1 + byteAt bs at) (k + 1)
   walking-next =

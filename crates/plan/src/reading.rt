@@ -13,8 +13,8 @@ use crate::settings::settings_by;
 use crate::stored::HEADER;
 use crate::stored::Judged;
 use crate::stored::byte_at;
+use crate::stored::checked_at;
 use crate::stored::judge;
-use crate::stored::order_at;
 use head::state::Settings;
 ghost use mathlib.Core.Path.{_≡_};
 ghost use Prim.Native.Nat.{_+_, _*_, _<_};
@@ -66,7 +66,8 @@ fn read_orders(rows: &mut [u16], plan: &[u8], count: usize, start: Settings) -> 
     let mut acts: usize = 0;
     let mut k: usize = 0;
     while k < count {
-        let order = order_at(plan, at);
+        let checked = checked_at(plan, at);
+        let order = checked.order;
         acts = log_order(rows, acts, settings, order);
         settings = settings_by(settings, order);
         at = at + 1 + byte_at(plan, at) as usize;

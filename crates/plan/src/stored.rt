@@ -8,7 +8,7 @@ ghost use mathlib.Core.Path.{_≡_};
 ghost use Prim.Native.Nat.{_+_, _*_, _≤_, _<_, _^_};
 ghost use lib.ListN.{length};
 ghost use Rattle.plan.specs.Codes.{countOf, widthOf};
-ghost use Rattle.plan.specs.Stored.{byteAt, pairAt, reach, valueAt, fieldAt, fieldsAt, orderAt, faultAt, headerFault, ordersFrom, mostOrders, planOf};
+ghost use Rattle.plan.specs.Stored.{byteAt, pairAt, reach, valueAt, fieldsAt, faultAt, headerFault, ordersFrom, mostOrders, planOf};
 ghost use Rattle.plan.specs.Judged.{faulty, checkedAt, judgedOf};
 
 // The version of the stored form.
@@ -59,42 +59,6 @@ fn pair_at(plan: &[u8], i: usize) -> u16
     let high = byte_at(plan, i) as u16;
     let low = byte_at(plan, i + 1) as u16;
     high * 256 + low
-}
-
-// The ith field of an order whose fields start at a place.
-fn field_at(plan: &[u8], at: usize, code: u8, i: usize) -> u16
-    requires { ⌜ (at < 2 ^ 63 + 2) × (i < 4) ⌝ }
-    ensures { λ r. ⌜ r ≡ fieldAt (now (plan .entry)) at code i ⌝ }
-{
-    if count_of(code) <= i {
-        return 0;
-    }
-    if width_of(code) == 2 {
-        return pair_at(plan, at + 2 * i);
-    }
-    byte_at(plan, at + i) as u16
-}
-
-// The order whose length byte is at a place; past the end all its bytes are 0.
-pub fn order_at(plan: &[u8], at: usize) -> Order
-    ensures { λ r. ⌜ r ≡ orderAt (now (plan .entry)) at ⌝ }
-{
-    if plan.len() <= at {
-        return Order {
-            code: 0,
-            a: 0,
-            b: 0,
-            c: 0,
-            d: 0,
-        };
-    }
-    let code = byte_at(plan, at + 1);
-    let fields = at + 2;
-    let a = field_at(plan, fields, code, 0);
-    let b = field_at(plan, fields, code, 1);
-    let c = field_at(plan, fields, code, 2);
-    let d = field_at(plan, fields, code, 3);
-    Order { code, a, b, c, d }
 }
 
 // An order that was read: what is wrong with it, a number of document 01's refusal table or 0 for nothing; and where nothing is, itself.

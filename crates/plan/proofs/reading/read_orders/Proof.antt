@@ -5,7 +5,7 @@ use Prim.Native.Nat.{_-_, _≤_, _<_}
 use native.Mathlib.Omega.{arith}
 use Rattle.plan.specs.Stored.{planOf, ordersIn}
 use Rattle.plan.specs.Rows.{endRow}
-use Rattle.plan.proofs.Logging.{Logging, logging-first, logging-room, logging-fits, logging-ends, logging-next, logged-acts, logged-rows}
+use Rattle.plan.proofs.Logging.{Logging, logging-first, logging-room, logging-order, logging-fits, logging-ends, logging-next, logged-acts, logged-rows}
 use borrow.Author.Needs.{needs}
 use Rattle.plan.proofs.reading.read_orders.Statement.{statement}
 use Rattle.plan.proofs.reading.read_orders.Tie as tie
@@ -20,22 +20,22 @@ abbrev μ-loop : tie.MeasureT-loop
 loop-holds : tie.Need-loop-holds Inv-loop μ-loop
 loop-holds c = logging-first (c .before .before .pre .0) (c .before .before .pre .1)
 
-order-at-requires : tie.Need-order-at-requires Inv-loop μ-loop
-order-at-requires c κs = search needs
+checked-at-requires : tie.Need-checked-at-requires Inv-loop μ-loop
+checked-at-requires c κs = search needs
 
 log-order-requires : tie.Need-log-order-requires Inv-loop μ-loop
 log-order-requires c κs =
-    let a = c .before .before .before .before .before .before .args in
-    let at = c .before .before .before .loop in
+    let a = c .before .before .before .before .before .before .before .args in
+    let at = c .before .before .before .before .loop in
     let more : at .k < a .count = omega arith in
     logging-room (at .inv) more
 
 settings-by-requires : tie.Need-settings-by-requires Inv-loop μ-loop
 settings-by-requires c κs =
-    let a = c .before .before .before .before .before .before .before .before .before .args in
-    let at = c .before .before .before .before .before .before .loop in
+    let a = c .before .before .before .before .before .before .before .before .before .before .args in
+    let at = c .before .before .before .before .before .before .before .loop in
     let more : at .k < a .count = omega arith in
-    rw (c .before .before .before .before .order-at .ensures) (logging-fits (at .inv) more)
+    rw (logging-order (at .inv) more (c .before .before .before .before .before .checked-at .ensures)) (logging-fits (at .inv) more)
 
 add-at : tie.Need-add-at Inv-loop μ-loop
 add-at c = search needs
@@ -48,8 +48,8 @@ cast-at c = search needs
 
 add-at-2 : tie.Need-add-at-2 Inv-loop μ-loop
 add-at-2 c =
-    let start = c .before .before .before .before .before .before .before .before .before .before .before in
-    let at = c .before .before .before .before .before .before .before .before .loop in
+    let start = c .before .before .before .before .before .before .before .before .before .before .before .before in
+    let at = c .before .before .before .before .before .before .before .before .before .loop in
     let more : at .k < start .args .count = omega arith in
     omega (arith, logging-ends (at .inv) more, start .good .1 .0 .0, c .byte-at .ensures)
 
@@ -61,10 +61,10 @@ loop-less c = search needs
 
 loop-again : tie.Need-loop-again Inv-loop μ-loop
 loop-again c =
-    let a = c .before .before .before .before .before .before .before .before .before .before .before .args in
-    let at = c .before .before .before .before .before .before .before .before .loop in
+    let a = c .before .before .before .before .before .before .before .before .before .before .before .before .args in
+    let at = c .before .before .before .before .before .before .before .before .before .loop in
     let more : at .k < a .count = omega arith in
-    let is = c .before .before .before .before .before .before .order-at .ensures in
+    let is = logging-order (at .inv) more (c .before .before .before .before .before .before .before .checked-at .ensures) in
     let e = rw is at (c .before .before .before .before .log-order .ensures) in
     rw (c .byte-at .ensures) (logging-next (at .inv) more (e .0) (e .1) (rw is at (c .before .settings-by .ensures)))
 
@@ -93,7 +93,7 @@ read-orders-spec =
     Inv-loop
     μ-loop
     loop-holds
-    order-at-requires
+    checked-at-requires
     log-order-requires
     settings-by-requires
     add-at
