@@ -24,7 +24,7 @@ use Rattle.head.proofs.Ticks.{ticks-settings}
 use Rattle.plan.specs.Words.{Item, send, pause}
 use Rattle.schedule.specs.Earliest.{delayOf}
 use Rattle.schedule.specs.Schedule.{Timed, following, readied, spanOf, sent, scheduleFrom}
-use Rattle.schedule.specs.Clock.{waitOf, clockOf, tickFor, lengthAt, spanAt, clockAfter, clockPaused, clockedFrom, clockThrough, kindIn, Near}
+use Rattle.schedule.specs.Clock.{waitOf, clockOf, tickFor, lengthAt, spanAt, clockAfter, clockPaused, clockedFrom, clockThrough, kindIn, Near, longestMotion, longestWord}
 use Rattle.schedule.specs.declared.clock.Clock.{Clock}
 use Rattle.schedule.proofs.InTurn.{Step, InTurn, empty, given, paused, word-kind, word-bits, is-start, is-hk}
 use Rattle.schedule.proofs.Ready.{Idle, idle-ticks, ticks-motion, delay-wait, readied-ticks, readied-idle, told-head, sent-idle}
@@ -175,11 +175,11 @@ unfolding clockPaused
 near-paused n m c h = omega arith
 
 module _ (n : ℕ) (c : Clock) (h : Near n c) where
-  pub tick-near : (k : ℕ) → tickFor c k ≤ n + 3175
+  pub tick-near : (k : ℕ) → tickFor c k ≤ n + longestMotion
   unfolding tickFor
   tick-near k = go (eqb k kind.start) (eqb k kind.cover)
     where
-      go : (x y : Bool) → cond x (max (c .now) (max (c .mirror) (c .cover))) (cond y (max (c .now) (c .cover)) (c .now)) ≤ n + 3175
+      go : (x y : Bool) → cond x (max (c .now) (max (c .mirror) (c .cover))) (cond y (max (c .now) (c .cover)) (c .now)) ≤ n + longestMotion
       go true y = omega arith
       go false true = omega arith
       go false false = omega arith
@@ -201,7 +201,7 @@ module _ (n : ℕ) (c : Clock) (h : Near n c) where
       go false true = omega arith
       go false false = omega arith
 
-  pub near-after : (k b : ℕ) → b < 1024 → Near (n + 7413) (clockAfter c k b)
+  pub near-after : (k b : ℕ) → b < 1024 → Near (n + longestWord) (clockAfter c k b)
   unfolding clockAfter
   near-after k b ten =
       let t = tick-near k in
@@ -210,9 +210,9 @@ module _ (n : ℕ) (c : Clock) (h : Near n c) where
       record {
         now = omega arith;
         mirror =
-            chosen (eqb k kind.cosL || (eqb k kind.switch && eqb b 0)) (tickFor c k + 30) (c .mirror) (n + 7413 + 3175) (λ e. omega arith)
+            chosen (eqb k kind.cosL || (eqb k kind.switch && eqb b 0)) (tickFor c k + 30) (c .mirror) (n + longestWord + longestMotion) (λ e. omega arith)
             (omega arith);
-        cover = chosen (eqb k kind.cover) (tickFor c k + 25 * steps b) (c .cover) (n + 7413 + 3175) (λ e. omega arith) (omega arith);
+        cover = chosen (eqb k kind.cover) (tickFor c k + 25 * steps b) (c .cover) (n + longestWord + longestMotion) (λ e. omega arith) (omega arith);
         irdelay = chosen (eqb k kind.irDelay) b (c .irdelay) 1023 (λ e. omega arith) (h .irdelay);
         irexpo = chosen (eqb k kind.irExpo) b (c .irexpo) 1023 (λ e. omega arith) (h .irexpo);
         ccddelay = chosen (eqb k kind.ccdDelay) b (c .ccddelay) 1023 (λ e. omega arith) (h .ccddelay);

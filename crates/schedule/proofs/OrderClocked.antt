@@ -16,7 +16,7 @@ use Rattle.plan.specs.Codes as code
 use Rattle.plan.specs.Codes.{is, fit}
 use Rattle.plan.specs.Words.{Item, switchData, wordsOf, itemsOf}
 use Rattle.plan.specs.declared.order.Order.{Order}
-use Rattle.schedule.specs.Clock.{Near, early, tickFor, firstTick, lengthAt, setBy, spanAt, clockAfter, clockPaused, clockedFrom, clockThrough}
+use Rattle.schedule.specs.Clock.{Near, early, tickFor, firstTick, lengthAt, setBy, spanAt, clockAfter, clockPaused, clockedFrom, clockThrough, longestMotion}
 use Rattle.schedule.specs.Filled.{orderTicks, upFrom}
 use Rattle.schedule.specs.Translate.{tickList}
 use Rattle.schedule.specs.declared.clock.Clock.{Clock}
@@ -120,7 +120,7 @@ module _ (o : Order) (f : fit o ≡ true) (c : Clock) where
 
 -- the tick of an order's first word, and what the code adds to it
 module _ (c : Clock) (near : Near early c) (k t : ℕ) (tick : t ≡ firstTick c k) where
-  pub first-near : t ≤ early + 3175
+  pub first-near : t ≤ early + longestMotion
   unfolding firstTick
   first-near = rw tick (tick-near early c near _)
 

@@ -23,7 +23,7 @@ use Rattle.plan.specs.declared.order.Order.{Order}
 use Rattle.schedule.specs.Earliest.{atRest, delayOf, startWord, hkWord}
 use Rattle.schedule.specs.Schedule.{Timed, readied, spanOf, sent, scheduleFrom, Earliest, Rising}
 use Rattle.words.proofs.Allowed.{allowed-bits}
-use Rattle.schedule.specs.Clock.{Near, clockOf, clockAfter, clockPaused, clockThrough, clockedFrom}
+use Rattle.schedule.specs.Clock.{Near, clockOf, clockAfter, clockPaused, clockThrough, clockedFrom, longestWord}
 use Rattle.schedule.specs.declared.clock.Clock.{Clock}
 use Rattle.schedule.specs.Translate.{fit}
 use Rattle.plan.proofs.Accepted.{AllFit}
@@ -41,7 +41,7 @@ wordCount (wait n ∷ ms) = wordCount ms
 
 abbrev pub mostTicks : List Step → ℕ
 mostTicks [] = 0
-mostTicks (word k b ∷ ms) = 7413 + mostTicks ms
+mostTicks (word k b ∷ ms) = longestWord + mostTicks ms
 mostTicks (wait n ∷ ms) = n + mostTicks ms
 
 words-append : (ms ns : List Step) → wordCount (ms ++ ns) ≡ wordCount ms + wordCount ns
@@ -91,8 +91,8 @@ near-through : {m : ℕ} {is : List Item} {ms : List Step} → InTurn m is ms �
 unfolding clockThrough
 near-through empty n c h = rw (add-zero n) h
 near-through (given {ms = ms} k b fine turn r) n c h =
-    rw (word-kind k b fine, word-bits k b fine, ← add-assoc n 7413 (mostTicks ms))
-    (near-through r (n + 7413) (clockAfter c k b) (near-after n c h k b (allowed-bits k b fine)))
+    rw (word-kind k b fine, word-bits k b fine, ← add-assoc n longestWord (mostTicks ms))
+    (near-through r (n + longestWord) (clockAfter c k b) (near-after n c h k b (allowed-bits k b fine)))
 near-through (paused {ms = ms} m r) n c h =
     rw (← add-assoc n m (mostTicks ms)) (near-through r (n + m) (clockPaused c m) (near-paused n m c h))
 

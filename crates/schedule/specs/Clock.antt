@@ -18,11 +18,19 @@ use Rattle.plan.specs.declared.order.Order.{Order}
 use Rattle.schedule.specs.Schedule.{Schedule, following}
 use Rattle.schedule.specs.declared.clock.Clock.{Clock}
 
+-- The longest motion that a COVER word's seven bits of steps can ask for: 25 ticks for each of 127.
+abbrev pub longestMotion : ℕ
+longestMotion = 3175
+
+-- The most that a word advances the clock: such a motion is waited for, and an acquisition takes 4238 ticks at most.
+abbrev pub longestWord : ℕ
+longestWord = 7413
+
 -- The clock stands at n or before, what moves then is at rest soon, and a delay or an exposure has ten bits: its numbers fit.
 pub record Near (n : ℕ) (c : Clock) : Type 0 where
   pub now : c .now ≤ n
-  pub mirror : c .mirror ≤ n + 3175
-  pub cover : c .cover ≤ n + 3175
+  pub mirror : c .mirror ≤ n + longestMotion
+  pub cover : c .cover ≤ n + longestMotion
   pub irdelay : c .irdelay ≤ 1023
   pub irexpo : c .irexpo ≤ 1023
   pub ccddelay : c .ccddelay ≤ 1023
@@ -32,7 +40,7 @@ pub record Near (n : ℕ) (c : Clock) : Type 0 where
 abbrev pub latest : ℕ
 latest = 4194240
 
--- Four words before the latest clock.
+-- Four such words before the latest clock.
 abbrev pub early : ℕ
 early = 4164588
 
