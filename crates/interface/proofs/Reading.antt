@@ -1,145 +1,111 @@
 -- The ways through the exported readers: block is the block, old the array for the numbers as it was given.
 -- Assumes nothing.
-use mathlib.Core.Path.{_≡_, sym, _∙_, ap}
+use mathlib.Core.Path.{_≡_, refl, sym, _∙_, ap}
 use mathlib.Core.Bool.{Bool, true, false, cond}
 use mathlib.Core.List.{List}
-use Prim.Native.Nat.{ℕ, _≤_}
+use Prim.Native.Nat.{ℕ, suc, _+_, _*_, _<_, _≤_}
+use native.Mathlib.Omega.{arith}
 use borrow.Author.Tests.{eq-eqb, ne-eqb}
-use lib.Dec.{lit≤}
+use lib.Dec.{eqb, lit<}
 use lib.ListN.{length}
 use Rattle.blocks.specs.Numbers.{refusalNumber, refusalPlace}
 use Rattle.blocks.specs.Ir.{irJudged, irAnswerOf, irReadingsOf, irReadOf}
 use Rattle.blocks.specs.Ccd.{ccdJudged, ccdRestJudged, ccdAnswerOf, ccdReadingsOf, ccdReadOf}
 use Rattle.blocks.specs.declared.refusal.Refusal.{Refusal}
 use Rattle.blocks.specs.declared.refusal.Refusal.the-variants.{Length}
-use Rattle.blocks.specs.declared.ir.IrMeaning.{IrMeaning}
-use Rattle.blocks.specs.declared.ir.IrAnswer.{IrAnswer}
 use Rattle.blocks.specs.declared.ir.IrAnswer.the-variants as ir
 use Rattle.blocks.specs.declared.ir.IrRead.{IrRead}
-use Rattle.blocks.specs.declared.ccd.CcdMeaning.{CcdMeaning}
-use Rattle.blocks.specs.declared.ccd.CcdAnswer.{CcdAnswer}
 use Rattle.blocks.specs.declared.ccd.CcdAnswer.the-variants as ccd
 use Rattle.blocks.specs.declared.ccd.CcdRead.{CcdRead}
 use Rattle.interface.specs.Blocks.{irNumbers, ccdNumbers, refusalAnswer, irAnswer, ccdAnswer, irSaidNumbers, ccdSaidNumbers, irNumbersAfter, ccdNumbersAfter, irReadFor, ccdReadFor, mostPlace}
 
--- the place of a refusal is small
-abbrev IrNear : IrAnswer → Type 0
-IrNear (ir.Block m) = Unit {0}
-IrNear (ir.Refused r) = refusalPlace r ≤ mostPlace
+-- above every answer: a refusal's number is less than 256
+abbrev bound : ℕ
+bound = 0x100 * suc mostPlace
 
-abbrev CcdNear : CcdAnswer → Type 0
-CcdNear (ccd.Block m) = Unit {0}
-CcdNear (ccd.Refused r) = refusalPlace r ≤ mostPlace
+-- What the definitions of a channel's reader say: M is what a block says, A the answer, R what is read.
+pub record Reader {M A R : Type 0} (says : M → A) (refused : Refusal → A) (answer : R → A) (readings : R → List ℕ) (readOf : List ℕ → R)
+    (answerOf : List ℕ → A) (count : ℕ) (readFor : List ℕ → List ℕ → A) (number : A → ℕ) (said : List ℕ → M → List ℕ)
+    (after : A → List ℕ → List ℕ → List ℕ) : Type 0 where
+  read-answer : (block : List ℕ) → answer (readOf block) ≡ answerOf block
+  read-for : (block old : List ℕ) → readFor block old ≡ cond (eqb (length old) count) (answerOf block) (refused Length)
+  says-number : (m : M) → number (says m) ≡ 0
+  refused-number : (r : Refusal) → number (refused r) ≡ refusalAnswer r
+  says-after : (m : M) (block old : List ℕ) → answerOf block ≡ says m → after (says m) block old ≡ said (readings (readOf block)) m
+  refused-after : (r : Refusal) (block old : List ℕ) → after (refused r) block old ≡ old
+  bounded : (block : List ℕ) → number (answerOf block) < bound
 
-module _ (b : Bool) (r : Refusal) (near : refusalPlace r ≤ mostPlace) where
-  ir-or : (y : IrAnswer) → IrNear y → IrNear (cond b (ir.Refused r) y)
-  ir-or y rest = pick b
-    where
-      pick : (b : Bool) → IrNear (cond b (ir.Refused r) y)
-      pick true = near
-      pick false = rest
+either : {A : Type 0} (number : A → ℕ) (b : Bool) (x y : A) → number x < bound → number y < bound → number (cond b x y) < bound
+either number true x y hx hy = hx
+either number false x y hx hy = hy
 
-  ccd-or : (y : CcdAnswer) → CcdNear y → CcdNear (cond b (ccd.Refused r) y)
-  ccd-or y rest = pick b
-    where
-      pick : (b : Bool) → CcdNear (cond b (ccd.Refused r) y)
-      pick true = near
-      pick false = rest
+pub ir-reader :
+    Reader ir.Block ir.Refused (λ (r : IrRead). r .answer) (λ (r : IrRead). r .readings) irReadOf irAnswerOf irNumbers irReadFor irAnswer irSaidNumbers irNumbersAfter
+unfolding irReadOf irReadingsOf irReadFor irAnswer irNumbersAfter irAnswerOf irJudged refusalAnswer refusalNumber refusalPlace
+ir-reader =
+    record {
+      read-answer = λ block. refl;
+      read-for = λ block old. refl;
+      says-number = λ m. refl;
+      refused-number = λ r. refl;
+      says-after = λ m block old e. rw e;
+      refused-after = λ r block old. refl;
+      bounded = λ block. search (either irAnswer, lit<) depth 20;
+    }
 
-ir-near : (block : List ℕ) → IrNear (irAnswerOf block)
-unfolding irAnswerOf irJudged refusalPlace
-ir-near block = search (ir-or, lit≤, tt) depth 20
+pub ccd-reader :
+    Reader ccd.Block ccd.Refused (λ (r : CcdRead). r .answer) (λ (r : CcdRead). r .readings) ccdReadOf ccdAnswerOf ccdNumbers ccdReadFor ccdAnswer ccdSaidNumbers ccdNumbersAfter
+unfolding ccdReadOf ccdReadingsOf ccdReadFor ccdAnswer ccdNumbersAfter ccdAnswerOf ccdJudged ccdRestJudged refusalAnswer refusalNumber refusalPlace
+ccd-reader =
+    record {
+      read-answer = λ block. refl;
+      read-for = λ block old. refl;
+      says-number = λ m. refl;
+      refused-number = λ r. refl;
+      says-after = λ m block old e. rw e;
+      refused-after = λ r block old. refl;
+      bounded = λ block. search (either ccdAnswer, lit<) depth 30;
+    }
 
-ccd-near : (block : List ℕ) → CcdNear (ccdAnswerOf block)
-unfolding ccdAnswerOf ccdJudged ccdRestJudged refusalPlace
-ccd-near block = search (ccd-or, lit≤, tt) depth 30
+module _ {M A R : Type 0} {says : M → A} {refused : Refusal → A} {answer : R → A} {readings : R → List ℕ} {readOf : List ℕ → R}
+    {answerOf : List ℕ → A} {count : ℕ} {readFor : List ℕ → List ℕ → A} {number : A → ℕ} {said : List ℕ → M → List ℕ}
+    {after : A → List ℕ → List ℕ → List ℕ} (c : Reader says refused answer readings readOf answerOf count readFor number said after)
+    (block old : List ℕ) where
+  module _ (short : length old ≡ count → ⊥) where
+    unfit : readFor block old ≡ refused Length
+    unfit = c .read-for block old ∙ rw (ne-eqb (length old) count short)
 
-module _ (block old : List ℕ) where
-  module _ (short : length old ≡ irNumbers → ⊥) where
-    ir-unfit : irReadFor block old ≡ ir.Refused Length
-    unfolding irReadFor
-    ir-unfit = rw (ne-eqb (length old) irNumbers short)
+    pub unfit-answer : 11 ≡ number (readFor block old)
+    unfolding refusalAnswer refusalNumber refusalPlace
+    unfit-answer = rw unfit (sym (c .refused-number Length))
 
-    pub ir-unfit-answer : 11 ≡ irAnswer (irReadFor block old)
-    unfolding irAnswer refusalAnswer refusalNumber refusalPlace
-    ir-unfit-answer = rw ir-unfit
+    pub unfit-left : old ≡ after (readFor block old) block old
+    unfit-left = rw unfit (sym (c .refused-after Length block old))
 
-    pub ir-unfit-left : old ≡ irNumbersAfter (irReadFor block old) block old
-    unfolding irNumbersAfter
-    ir-unfit-left = rw ir-unfit
+  module _ (read : R) (is : read ≡ readOf block) where
+    own : (a : A) → answer read ≡ a → answerOf block ≡ a
+    own a e = sym (c .read-answer block) ∙ ap answer (sym is) ∙ e
 
-  module _ (read : IrRead) (is : read ≡ irReadOf block) where
-    ir-own : read .answer ≡ irAnswerOf block
-    unfolding irReadOf
-    ir-own = ap (λ (r : IrRead). r .answer) is
+    pub place : (f : Refusal) → answer read ≡ refused f → refusalPlace f ≤ mostPlace
+    unfolding refusalAnswer
+    place f e =
+        let h : refusalNumber f + 0x100 * refusalPlace f < bound = rw (own (refused f) e, c .refused-number f) at (c .bounded block) in
+        omega arith
 
-    pub ir-place : (f : Refusal) → read .answer ≡ ir.Refused f → refusalPlace f ≤ mostPlace
-    ir-place f e = rw (sym ir-own ∙ e) at (ir-near block)
+    module _ (long : length old ≡ count) where
+      fit : (a : A) → answer read ≡ a → readFor block old ≡ a
+      fit a e = c .read-for block old ∙ rw (eq-eqb (length old) count long) (own a e)
 
-    module _ (long : length old ≡ irNumbers) where
-      ir-read-is : irReadFor block old ≡ read .answer
-      unfolding irReadFor
-      ir-read-is = rw (eq-eqb (length old) irNumbers long) (sym ir-own)
+      module _ (f : Refusal) (e : answer read ≡ refused f) where
+        pub refused-answer : (r : ℕ) → r ≡ refusalAnswer f → r ≡ number (readFor block old)
+        refused-answer r an = rw (fit (refused f) e, c .refused-number f) an
 
-      module _ (f : Refusal) (e : read .answer ≡ ir.Refused f) where
-        pub ir-refused : (r : ℕ) → r ≡ refusalAnswer f → r ≡ irAnswer (irReadFor block old)
-        unfolding irAnswer
-        ir-refused r an = rw (ir-read-is, e) an
+        pub refused-left : old ≡ after (readFor block old) block old
+        refused-left = rw (fit (refused f) e) (sym (c .refused-after f block old))
 
-        pub ir-refused-left : old ≡ irNumbersAfter (irReadFor block old) block old
-        unfolding irNumbersAfter
-        ir-refused-left = rw (ir-read-is, e)
+      module _ (m : M) (e : answer read ≡ says m) where
+        pub said-answer : 0 ≡ number (readFor block old)
+        said-answer = rw (fit (says m) e) (sym (c .says-number m))
 
-      module _ (m : IrMeaning) (e : read .answer ≡ ir.Block m) where
-        pub ir-read : 0 ≡ irAnswer (irReadFor block old)
-        unfolding irAnswer
-        ir-read = rw (ir-read-is, e)
-
-        pub ir-read-left : (after : List ℕ) → after ≡ irSaidNumbers (read .readings) m → after ≡ irNumbersAfter (irReadFor block old) block old
-        unfolding irNumbersAfter irReadOf irReadingsOf
-        ir-read-left after an = an ∙ rw (ir-read-is, e, is, sym ir-own ∙ e)
-
-module _ (block old : List ℕ) where
-  module _ (short : length old ≡ ccdNumbers → ⊥) where
-    ccd-unfit : ccdReadFor block old ≡ ccd.Refused Length
-    unfolding ccdReadFor
-    ccd-unfit = rw (ne-eqb (length old) ccdNumbers short)
-
-    pub ccd-unfit-answer : 11 ≡ ccdAnswer (ccdReadFor block old)
-    unfolding ccdAnswer refusalAnswer refusalNumber refusalPlace
-    ccd-unfit-answer = rw ccd-unfit
-
-    pub ccd-unfit-left : old ≡ ccdNumbersAfter (ccdReadFor block old) block old
-    unfolding ccdNumbersAfter
-    ccd-unfit-left = rw ccd-unfit
-
-  module _ (read : CcdRead) (is : read ≡ ccdReadOf block) where
-    ccd-own : read .answer ≡ ccdAnswerOf block
-    unfolding ccdReadOf
-    ccd-own = ap (λ (r : CcdRead). r .answer) is
-
-    pub ccd-place : (f : Refusal) → read .answer ≡ ccd.Refused f → refusalPlace f ≤ mostPlace
-    ccd-place f e = rw (sym ccd-own ∙ e) at (ccd-near block)
-
-    module _ (long : length old ≡ ccdNumbers) where
-      ccd-read-is : ccdReadFor block old ≡ read .answer
-      unfolding ccdReadFor
-      ccd-read-is = rw (eq-eqb (length old) ccdNumbers long) (sym ccd-own)
-
-      module _ (f : Refusal) (e : read .answer ≡ ccd.Refused f) where
-        pub ccd-refused : (r : ℕ) → r ≡ refusalAnswer f → r ≡ ccdAnswer (ccdReadFor block old)
-        unfolding ccdAnswer
-        ccd-refused r an = rw (ccd-read-is, e) an
-
-        pub ccd-refused-left : old ≡ ccdNumbersAfter (ccdReadFor block old) block old
-        unfolding ccdNumbersAfter
-        ccd-refused-left = rw (ccd-read-is, e)
-
-      module _ (m : CcdMeaning) (e : read .answer ≡ ccd.Block m) where
-        pub ccd-read : 0 ≡ ccdAnswer (ccdReadFor block old)
-        unfolding ccdAnswer
-        ccd-read = rw (ccd-read-is, e)
-
-        pub ccd-read-left : (after : List ℕ) → after ≡ ccdSaidNumbers (read .readings) m → after ≡ ccdNumbersAfter (ccdReadFor block old) block old
-        unfolding ccdNumbersAfter ccdReadOf ccdReadingsOf
-        ccd-read-left after an = an ∙ rw (ccd-read-is, e, is, sym ccd-own ∙ e)
+        pub said-left : (l : List ℕ) → l ≡ said (readings read) m → l ≡ after (readFor block old) block old
+        said-left l an = rw (fit (says m) e, c .says-after m block old (own (says m) e), ← is) an

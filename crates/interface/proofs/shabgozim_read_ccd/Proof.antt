@@ -1,12 +1,12 @@
 -- `interface::shabgozim_read_ccd` meets its contract.
 -- Assumes nothing.
-use Rattle.interface.proofs.Reading.{ccd-unfit-answer, ccd-unfit-left, ccd-place, ccd-refused, ccd-refused-left, ccd-read, ccd-read-left}
+use Rattle.interface.proofs.Reading.{ccd-reader, unfit-answer, unfit-left, place, refused-answer, refused-left, said-answer, said-left}
 use borrow.Author.Needs.{needs}
 use Rattle.interface.proofs.shabgozim_read_ccd.Statement.{statement}
 use Rattle.interface.proofs.shabgozim_read_ccd.Tie as tie
 
 returns : tie.Need-returns
-returns c = search (needs, ccd-unfit-answer, ccd-unfit-left)
+returns c = search (needs, unfit-answer ccd-reader, unfit-left ccd-reader)
 
 read-ccd-requires : tie.Need-read-ccd-requires
 read-ccd-requires c κs = search needs
@@ -21,16 +21,16 @@ enum-known-answer-2 : tie.Need-enum-known-answer-2
 enum-known-answer-2 c = search needs
 
 refused-number-requires : tie.Need-refused-number-requires
-refused-number-requires c κs = search (needs, ccd-place)
+refused-number-requires c κs = search (needs, place ccd-reader)
 
 same-length : tie.Need-same-length
 same-length c = search needs
 
 returns-2 : tie.Need-returns-2
-returns-2 c = search (needs, ccd-read, ccd-read-left)
+returns-2 c = search (needs, said-answer ccd-reader, said-left ccd-reader)
 
 returns-3 : tie.Need-returns-3
-returns-3 c = search (needs, ccd-refused, ccd-refused-left)
+returns-3 c = search (needs, refused-answer ccd-reader, refused-left ccd-reader)
 
 pub shabgozim-read-ccd-spec : {M : Type 1} → statement M
 shabgozim-read-ccd-spec =

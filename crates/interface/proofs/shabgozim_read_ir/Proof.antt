@@ -1,12 +1,12 @@
 -- `interface::shabgozim_read_ir` meets its contract.
 -- Assumes nothing.
-use Rattle.interface.proofs.Reading.{ir-unfit-answer, ir-unfit-left, ir-place, ir-refused, ir-refused-left, ir-read, ir-read-left}
+use Rattle.interface.proofs.Reading.{ir-reader, unfit-answer, unfit-left, place, refused-answer, refused-left, said-answer, said-left}
 use borrow.Author.Needs.{needs}
 use Rattle.interface.proofs.shabgozim_read_ir.Statement.{statement}
 use Rattle.interface.proofs.shabgozim_read_ir.Tie as tie
 
 returns : tie.Need-returns
-returns c = search (needs, ir-unfit-answer, ir-unfit-left)
+returns c = search (needs, unfit-answer ir-reader, unfit-left ir-reader)
 
 read-ir-requires : tie.Need-read-ir-requires
 read-ir-requires c κs = search needs
@@ -21,16 +21,16 @@ enum-known-answer-2 : tie.Need-enum-known-answer-2
 enum-known-answer-2 c = search needs
 
 refused-number-requires : tie.Need-refused-number-requires
-refused-number-requires c κs = search (needs, ir-place)
+refused-number-requires c κs = search (needs, place ir-reader)
 
 same-length : tie.Need-same-length
 same-length c = search needs
 
 returns-2 : tie.Need-returns-2
-returns-2 c = search (needs, ir-read, ir-read-left)
+returns-2 c = search (needs, said-answer ir-reader, said-left ir-reader)
 
 returns-3 : tie.Need-returns-3
-returns-3 c = search (needs, ir-refused, ir-refused-left)
+returns-3 c = search (needs, refused-answer ir-reader, refused-left ir-reader)
 
 pub shabgozim-read-ir-spec : {M : Type 1} → statement M
 shabgozim-read-ir-spec =
