@@ -1,5 +1,4 @@
 pub mod Storing
-pub mod Groups
 pub mod RoundTrip
 pub mod InPlace
 pub mod Stepped

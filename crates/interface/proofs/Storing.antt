@@ -58,8 +58,8 @@ three l a b c h =
     rw (sets-after a [] l (omega arith), sets-after b a (drop (length a) l) (simp length-drop (omega arith)))
     (rw (← append-assoc a b d, ← length-append a b, sets-after c (a ++ b) d (omega arith), drop-of-length-le d {i = length c} (omega arith), append-nil c, append-assoc a b c))
 
--- x, y and z are the groups as they were made
-module _ (l first middle all a b c x y z : List ℕ) (ea : x ≡ a) (eb : y ≡ b) (ec : z ≡ c) where
-  pub three-groups : length l ≡ length a + length b + length c
-      → first ≡ sets l 0 x → middle ≡ sets first (length a) y → all ≡ sets middle (length a + length b) z → all ≡ a ++ (b ++ c)
-  three-groups h e₁ e₂ e₃ = rw (e₃, e₂, e₁, ea, eb, ec) (three l a b c h)
+-- x, y and z are the groups as they were made, n is the length of the first
+module _ (l first middle all a b c x y z : List ℕ) (n : ℕ) (ea : x ≡ a) (eb : y ≡ b) (ec : z ≡ c) (long : length a ≡ n) where
+  pub three-groups : length l ≡ n + length b + length c → first ≡ sets l 0 x → middle ≡ sets first n y
+      → all ≡ sets middle (n + length b) z → all ≡ a ++ (b ++ c)
+  three-groups h e₁ e₂ e₃ = rw (e₃, e₂, e₁, ea, eb, ec, ← long) (three l a b c (rw long h))

@@ -1,6 +1,7 @@
 -- `interface::readings::put_ccd` meets its contract.
 -- Assumes nothing.
-use Rattle.interface.proofs.Groups.{ccd-stored}
+use Rattle.interface.specs.Blocks.{ccdSaidNumbers}
+use Rattle.interface.proofs.Storing.{three-groups}
 use borrow.Author.Needs.{needs}
 use Rattle.interface.proofs.readings.put_ccd.Statement.{statement}
 use Rattle.interface.proofs.readings.put_ccd.Tie as tie
@@ -30,7 +31,8 @@ same-length : tie.Need-same-length
 same-length c = search needs
 
 returns : tie.Need-returns
-returns c = search (needs, ccd-stored)
+unfolding ccdSaidNumbers
+returns c = search (needs, three-groups)
 
 pub put-ccd-spec : {M : Type 1} → statement M
 put-ccd-spec =

@@ -1,6 +1,7 @@
 -- `interface::readings::put_ir` meets its contract.
 -- Assumes nothing.
-use Rattle.interface.proofs.Groups.{ir-stored}
+use Rattle.interface.specs.Blocks.{irSaidNumbers}
+use Rattle.interface.proofs.Storing.{three-groups}
 use borrow.Author.Needs.{needs}
 use Rattle.interface.proofs.readings.put_ir.Statement.{statement}
 use Rattle.interface.proofs.readings.put_ir.Tie as tie
@@ -30,7 +31,8 @@ same-length : tie.Need-same-length
 same-length c = search needs
 
 returns : tie.Need-returns
-returns c = search (needs, ir-stored)
+unfolding irSaidNumbers
+returns c = search (needs, three-groups)
 
 pub put-ir-spec : {M : Type 1} → statement M
 put-ir-spec =

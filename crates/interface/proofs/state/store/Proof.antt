@@ -1,6 +1,7 @@
 -- `interface::state::store` meets its contract.
 -- Assumes nothing.
-use Rattle.interface.proofs.Groups.{state-stored}
+use Rattle.interface.specs.State.{numbersOf}
+use Rattle.interface.proofs.Storing.{three-groups}
 use borrow.Author.Needs.{needs}
 use Rattle.interface.proofs.state.store.Statement.{statement}
 use Rattle.interface.proofs.state.store.Tie as tie
@@ -30,7 +31,8 @@ same-length : tie.Need-same-length
 same-length c = search needs
 
 returns : tie.Need-returns
-returns c = search (needs, state-stored)
+unfolding numbersOf
+returns c = search (needs, three-groups)
 
 pub store-spec : {M : Type 1} → statement M
 store-spec =
