@@ -6,21 +6,16 @@ use mathlib.Core.Bool.{Bool, true, false, not}
 use mathlib.Core.List.{List}
 use Prim.Native.Nat.{ℕ}
 use borrow.Author.Tests.{eq-eqb, ne-eqb, not-true, not-false}
-use lib.Dec.{eqb}
 use lib.ListN.{length}
 use Rattle.head.specs.declared.state.Head.{Head}
 use Rattle.head.specs.declared.state.Flags.{Flags}
 use Rattle.blocks.specs.Numbers.{refusalNumber, writtenNumber}
 use Rattle.blocks.specs.Written.{writtenIf, writtenOf, bufferAfter}
-use Rattle.blocks.specs.Ir.{irWords, irReadings, irBlockOf}
-use Rattle.blocks.specs.Ccd.{ccdWords, ccdReadings, ccdBlockOf}
 use Rattle.blocks.specs.declared.refusal.Refusal.the-variants.{Length, State}
 use Rattle.blocks.specs.declared.written.Written.{Written}
 use Rattle.blocks.specs.declared.written.Written.the-variants.{Refused}
-use Rattle.blocks.specs.declared.ir.IrBits.{IrBits}
-use Rattle.blocks.specs.declared.ccd.CcdBits.{CcdBits}
 use Rattle.interface.specs.State.{stateOf, wellFormed, valid}
-use Rattle.interface.specs.Blocks.{flagsIn, irBitsIn, ccdBitsIn, blockWritten, irBlockFor, ccdBlockFor}
+use Rattle.interface.specs.Blocks.{blockWritten}
 
 module _ (n count : ℕ) (l readings old : List ℕ) where
   abbrev here : Written
@@ -68,7 +63,7 @@ module _ (n count : ℕ) (l readings old : List ℕ) where
         ill-left block = rw ill
 
       module _ (good : not b ≡ false) (h : Head) (loaded : h ≡ stateOf l) (w : Written) (answered : w ≡ writtenOf n h old) where
-        pub same-written : w ≡ here
+        same-written : w ≡ here
         unfolding blockWritten writtenOf valid
         same-written = answered ∙ rw (loaded, eq-eqb (length readings) count enough, sym is ∙ not-false b good)
 
@@ -76,18 +71,10 @@ module _ (n count : ℕ) (l readings old : List ℕ) where
         written-answer r e = rw (← same-written) e
 
 -- the buffer that is left, where the state was well formed
-module _ (l readings old after rs : List ℕ) (fs : Flags) (flags ended bits : ℕ) (shown : fs ≡ flagsIn flags) (given : rs ≡ readings)
-    (b : Bool) (is : b ≡ wellFormed l) (good : not b ≡ false) (h : Head) (loaded : h ≡ stateOf l) (w : Written) where
-  pub ir-left : (bs : IrBits) → bs ≡ irBitsIn bits → length readings ≡ irReadings → w ≡ writtenOf irWords h old
-      → after ≡ bufferAfter w (irBlockOf h fs (eqb ended 1) rs bs) old
-      → after ≡ bufferAfter (blockWritten irWords irReadings l readings old) (irBlockFor l flags ended bits readings) old
-  unfolding irBlockFor
-  ir-left bs said enough answered e =
-      rw (← same-written irWords irReadings l readings old enough b is good h loaded w answered, ← loaded, ← shown, ← given, ← said) e
-
-  pub ccd-left : (bs : CcdBits) → bs ≡ ccdBitsIn bits → length readings ≡ ccdReadings → w ≡ writtenOf ccdWords h old
-      → after ≡ bufferAfter w (ccdBlockOf h fs (eqb ended 1) rs bs) old
-      → after ≡ bufferAfter (blockWritten ccdWords ccdReadings l readings old) (ccdBlockFor l flags ended bits readings) old
-  unfolding ccdBlockFor
-  ccd-left bs said enough answered e =
-      rw (← same-written ccdWords ccdReadings l readings old enough b is good h loaded w answered, ← loaded, ← shown, ← given, ← said) e
+module _ {B : Type 0} (blockOf : Head → Flags → Bool → List ℕ → B → List ℕ) (n count : ℕ) (l readings old after rs : List ℕ)
+    (fs shown : Flags) (ended : Bool) (bs bits : B) (ef : fs ≡ shown) (er : rs ≡ readings) (eb : bs ≡ bits) where
+  pub written-left : (b : Bool) → b ≡ wellFormed l → not b ≡ false → (h : Head) → h ≡ stateOf l → length readings ≡ count
+      → (w : Written) → w ≡ writtenOf n h old → after ≡ bufferAfter w (blockOf h fs ended rs bs) old
+      → after ≡ bufferAfter (blockWritten n count l readings old) (blockOf (stateOf l) shown ended readings bits) old
+  written-left b is good h loaded enough w answered e =
+      rw (← same-written n count l readings old enough b is good h loaded w answered, ← loaded, ← ef, ← er, ← eb) e

@@ -1,7 +1,9 @@
 -- `interface::shabgozim_write_ccd` meets its contract.
 -- Assumes nothing.
+use Rattle.blocks.specs.Ccd.{ccdBlockOf}
+use Rattle.interface.specs.Blocks.{ccdBlockFor}
 use Rattle.interface.proofs.Ways.{long}
-use Rattle.interface.proofs.Writing.{few-number, few-left, unfit-number, unfit-left, ill-number, ill-left, written-answer, ccd-left}
+use Rattle.interface.proofs.Writing.{few-number, few-left, unfit-number, unfit-left, ill-number, ill-left, written-answer, written-left}
 use borrow.Author.Needs.{needs}
 use Rattle.interface.proofs.shabgozim_write_ccd.Statement.{statement}
 use Rattle.interface.proofs.shabgozim_write_ccd.Tie as tie
@@ -40,7 +42,8 @@ same-length : tie.Need-same-length
 same-length c = search needs
 
 returns-4 : tie.Need-returns-4
-returns-4 c = search (needs, written-answer, ccd-left)
+unfolding ccdBlockFor
+returns-4 c = search (needs, written-answer, written-left ccdBlockOf)
 
 pub shabgozim-write-ccd-spec : {M : Type 1} → statement M
 shabgozim-write-ccd-spec =

@@ -1,7 +1,9 @@
 -- `interface::shabgozim_write_ir` meets its contract.
 -- Assumes nothing.
+use Rattle.blocks.specs.Ir.{irBlockOf}
+use Rattle.interface.specs.Blocks.{irBlockFor}
 use Rattle.interface.proofs.Ways.{long}
-use Rattle.interface.proofs.Writing.{few-number, few-left, unfit-number, unfit-left, ill-number, ill-left, written-answer, ir-left}
+use Rattle.interface.proofs.Writing.{few-number, few-left, unfit-number, unfit-left, ill-number, ill-left, written-answer, written-left}
 use borrow.Author.Needs.{needs}
 use Rattle.interface.proofs.shabgozim_write_ir.Statement.{statement}
 use Rattle.interface.proofs.shabgozim_write_ir.Tie as tie
@@ -40,7 +42,8 @@ same-length : tie.Need-same-length
 same-length c = search needs
 
 returns-4 : tie.Need-returns-4
-returns-4 c = search (needs, written-answer, ir-left)
+unfolding irBlockFor
+returns-4 c = search (needs, written-answer, written-left irBlockOf)
 
 pub shabgozim-write-ir-spec : {M : Type 1} → statement M
 shabgozim-write-ir-spec =
