@@ -1,12 +1,12 @@
 -- The CCD block from meaning to words and back.
 -- Assumes nothing.
-use mathlib.Core.Path.{_≡_, refl, ap}
+use mathlib.Core.Path.{_≡_, refl, _∙_, ap}
 use mathlib.Core.Bool.{Bool, true}
 use mathlib.Core.List.{List, _++_}
 use Prim.Native.Nat.{ℕ, _+_, _<_, _≤_}
 use native.Mathlib.Omega.{arith}
 use borrow.Author.Tests.{eq-eqb, eqb-true, le-leb, leb-true}
-use lib.ListN.{length, getD, take, length-append}
+use lib.ListN.{length, getD, take}
 use lib.Seq.{take-at}
 use Rattle.words.specs.Kinds as kind
 use Rattle.words.specs.Kinds.{rows, least, greatest, allowed}
@@ -17,13 +17,14 @@ use Rattle.head.proofs.Bounds.{bounds, allowed-least, allowed-most}
 use Rattle.blocks.specs.Status.{sineWord, sineIn, sineRight, visFlagWord, visFlagsIn, visFlagsRight}
 use Rattle.blocks.specs.Ccd.{ccdShown, ccdStatus, ccdBlockOf, cosineRight, ccdSaid, ccdRestJudged, ccdJudged, ccdAnswerOf, ccdReadingsOf, ccdRead, ccdReadOf}
 use Rattle.blocks.specs.declared.refusal.Refusal.{Refusal}
+use Rattle.blocks.specs.declared.refusal.Refusal.the-variants.{Length}
 use Rattle.blocks.specs.declared.ccd.CcdBits.{CcdBits}
 use Rattle.blocks.specs.declared.ccd.Window.{Window}
 use Rattle.blocks.specs.declared.ccd.CcdMeaning.{CcdMeaning}
 use Rattle.blocks.specs.declared.ccd.CcdRead.{CcdRead}
 use Rattle.blocks.specs.declared.ccd.CcdAnswer.the-variants.{Block, Refused}
 use Rattle.blocks.proofs.Fields.{sine-back, sine-fits, vis-flags-back}
-use Rattle.blocks.proofs.Parts.{word-at, words, put-together, passed, within-allowed}
+use Rattle.blocks.proofs.Parts.{status-judged, words, put-together, held, later, within-allowed}
 
 -- what a CCD block can say
 pub record CcdFits (m : CcdMeaning) : Type 0 where
@@ -78,20 +79,7 @@ module _ (m : CcdMeaning) (fits : CcdFits m) where
     answer-back : ccdAnswerOf (readings ++ ccdStatus m) ≡ Block m
     unfolding ccdAnswerOf ccdStatus
     answer-back =
-        let at : (k : ℕ) → getD (readings ++ ccdStatus m) (16 + k) 0 ≡ getD (ccdStatus m) k 0 = λ k. word-at readings (ccdStatus m) 16 k sized in
-        rw (
-          eq-eqb (length (readings ++ ccdStatus m)) 25 (omega (arith, length-append readings (ccdStatus m))),
-          at 0,
-          at 1,
-          at 2,
-          at 3,
-          at 4,
-          at 5,
-          at 6,
-          at 7,
-          at 8,
-        )
-        judged-back
+        status-judged (Refused Length) (λ w. ccdJudged (record { x1 = w 0; y1 = w 1; x2 = w 2; y2 = w 3 }) (w 4) (w 5) (w 6) (w 7) (w 8)) 16 readings (ccdStatus m) sized ∙ judged-back
 
     pub ccd-status-read : ccdReadOf (readings ++ ccdStatus m) ≡ ccdRead readings (Block m)
     unfolding ccdReadOf ccdReadingsOf
@@ -122,32 +110,12 @@ record CcdRight (ws : List ℕ) (m : CcdMeaning) : Type 0 where
 no-block : (r : Refusal) (m : CcdMeaning) → Refused r ≡ Block m → ⊥
 no-block r m e = let z : _≡_ {A = ℕ} 0 1 = cc in omega arith
 
+same-block : (n m : CcdMeaning) → Block n ≡ Block m → n ≡ m
+same-block n m e = cc
+
 right : (ws : List ℕ) (m : CcdMeaning) → ccdAnswerOf ws ≡ Block m → CcdRight ws m
 unfolding ccdAnswerOf ccdJudged ccdRestJudged windowOf
-right ws m e =
-    let (sized, e0) = passed _ _ _ _ (no-block _ m) e in
-    let (x1, e1) = passed _ _ _ _ (no-block _ m) e0 in
-    let (y1, e2) = passed _ _ _ _ (no-block _ m) e1 in
-    let (x2, e3) = passed _ _ _ _ (no-block _ m) e2 in
-    let (y2, e4) = passed _ _ _ _ (no-block _ m) e3 in
-    let (delay, e5) = passed _ _ _ _ (no-block _ m) e4 in
-    let (expo, e6) = passed _ _ _ _ (no-block _ m) e5 in
-    let (sine, e7) = passed _ _ _ _ (no-block _ m) e6 in
-    let (cosine, e8) = passed _ _ _ _ (no-block _ m) e7 in
-    let (flags, e9) = passed _ _ _ _ (no-block _ m) e8 in
-    record {
-      sized = eqb-true (length ws) 25 sized;
-      x1 = x1;
-      y1 = y1;
-      x2 = x2;
-      y2 = y2;
-      delay = delay;
-      expo = expo;
-      sine = sine;
-      cosine = cosine;
-      flags = flags;
-      said = cc;
-    }
+right ws m e = search (held no-block, later no-block, same-block, eqb-true) depth 20
 
 module _ (ws : List ℕ) (m : CcdMeaning) (e : ccdAnswerOf ws ≡ Block m) where
   pub ccd-read-fits : CcdFits m

@@ -1,13 +1,13 @@
 -- The IR block from meaning to words and back.
 -- Assumes nothing.
-use mathlib.Core.Path.{_≡_, refl, sym, ap}
+use mathlib.Core.Path.{_≡_, refl, sym, _∙_, ap}
 use mathlib.Core.Bool.{Bool, true, false, cond, _&&_, _||_}
 use mathlib.Core.List.{List, _++_}
 use Prim.Native.Nat.{ℕ, zero, suc, _+_, _<_, _≤_}
 use native.Mathlib.Omega.{arith}
 use borrow.Author.Tests.{eq-eqb, eqb-true}
 use lib.Dec.{eqb}
-use lib.ListN.{length, getD, take, length-append}
+use lib.ListN.{length, getD, take}
 use lib.Seq.{take-at}
 use Rattle.words.specs.Kinds as kind
 use Rattle.words.specs.Kinds.{rows, least, greatest, allowed}
@@ -19,12 +19,13 @@ use Rattle.head.proofs.Bounds.{bounds, allowed-most}
 use Rattle.blocks.specs.Status.{lampShutterWord, lampShutterIn, lampShutterRight, irFlagWord, irFlagsIn, irFlagsRight}
 use Rattle.blocks.specs.Ir.{firstLine, lastLine, modeOf, linesRight, irShown, irStatus, irBlockOf, irSaid, irJudged, irAnswerOf, irReadingsOf, irRead, irReadOf}
 use Rattle.blocks.specs.declared.refusal.Refusal.{Refusal}
+use Rattle.blocks.specs.declared.refusal.Refusal.the-variants.{Length}
 use Rattle.blocks.specs.declared.ir.IrBits.{IrBits}
 use Rattle.blocks.specs.declared.ir.IrMeaning.{IrMeaning}
 use Rattle.blocks.specs.declared.ir.IrRead.{IrRead}
 use Rattle.blocks.specs.declared.ir.IrAnswer.the-variants.{Block, Refused}
 use Rattle.blocks.proofs.Fields.{lamp-shutter-back, lamp-shutter-fits, ir-flags-back}
-use Rattle.blocks.proofs.Parts.{word-at, words, put-together, passed, within-allowed}
+use Rattle.blocks.proofs.Parts.{status-judged, words, put-together, held, later, within-allowed}
 
 -- what an IR block can say
 pub record IrFits (m : IrMeaning) : Type 0 where
@@ -98,17 +99,7 @@ module _ (m : IrMeaning) (fits : IrFits m) where
     answer-back : irAnswerOf (readings ++ irStatus m) ≡ Block m
     unfolding irAnswerOf irStatus
     answer-back =
-        let at : (k : ℕ) → getD (readings ++ irStatus m) (14 + k) 0 ≡ getD (irStatus m) k 0 = λ k. word-at readings (irStatus m) 14 k sized in
-        rw (
-          eq-eqb (length (readings ++ irStatus m)) 20 (omega (arith, length-append readings (irStatus m))),
-          at 0,
-          at 1,
-          at 2,
-          at 3,
-          at 4,
-          at 5,
-        )
-        judged-back
+        status-judged (Refused Length) (λ w. irJudged (w 0) (w 1) (w 2) (w 3) (w 4) (w 5)) 14 readings (irStatus m) sized ∙ judged-back
 
     pub ir-status-read : irReadOf (readings ++ irStatus m) ≡ irRead readings (Block m)
     unfolding irReadOf irReadingsOf
@@ -132,16 +123,12 @@ record IrRight (ws : List ℕ) (m : IrMeaning) : Type 0 where
 no-block : (r : Refusal) (m : IrMeaning) → Refused r ≡ Block m → ⊥
 no-block r m e = let z : _≡_ {A = ℕ} 0 1 = cc in omega arith
 
+same-block : (n m : IrMeaning) → Block n ≡ Block m → n ≡ m
+same-block n m e = cc
+
 right : (ws : List ℕ) (m : IrMeaning) → irAnswerOf ws ≡ Block m → IrRight ws m
 unfolding irAnswerOf irJudged
-right ws m e =
-    let (a, e1) = passed _ _ _ _ (no-block _ m) e in
-    let (b, e2) = passed _ _ _ _ (no-block _ m) e1 in
-    let (c, e3) = passed _ _ _ _ (no-block _ m) e2 in
-    let (d, e4) = passed _ _ _ _ (no-block _ m) e3 in
-    let (f, e5) = passed _ _ _ _ (no-block _ m) e4 in
-    let (g, e6) = passed _ _ _ _ (no-block _ m) e5 in
-    record { sized = eqb-true (length ws) 20 a; lines = b; delay = c; expo = d; lampshutter = f; flags = g; said = cc }
+right ws m e = search (held no-block, later no-block, same-block, eqb-true) depth 20
 
 module _ (ws : List ℕ) (m : IrMeaning) (e : irAnswerOf ws ≡ Block m) where
   pub ir-read-fits : IrFits m
