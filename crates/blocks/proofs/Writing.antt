@@ -17,8 +17,8 @@ use Rattle.blocks.specs.declared.written.Written.the-variants.{Done, Ref
 
 -- by the lengths of the block's two parts
 pub written-by : (l m l′ m′ : ℕ) (fine fine′ : Bool) (buffer : List ℕ) (r : Written) → r ≡ writtenIf (l′ + m′) fine′ buffer
-    → l′ ≡ l → m′ ≡ m → fine′ ≡ fine → r ≡ writtenIf (l + m) fine buffer
-written-by l m l′ m′ fine fine′ buffer r is e e′ same = rw (e, e′, same) at is
+    → l ≡ l′ → m′ ≡ m → fine′ ≡ fine → r ≡ writtenIf (l + m) fine buffer
+written-by l m l′ m′ fine fine′ buffer r is e e′ same = rw (← e, e′, same) at is
 
 -- a refusal leaves a buffer as it was
 pub untouched : (r : Written) (x : Refusal) (block buffer : List ℕ) → r ≡ Refused x → buffer ≡ bufferAfter r block buffer

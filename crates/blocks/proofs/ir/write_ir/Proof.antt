@@ -1,6 +1,5 @@
 -- `blocks::ir::write_ir` meets its contract.
 -- Assumes nothing.
-use mathlib.Core.Path.{sym}
 use Rattle.blocks.specs.Written.{writtenOf}
 use Rattle.blocks.specs.Ir.{irBlockOf}
 use Rattle.blocks.proofs.Writing.{written-by}
@@ -31,10 +30,7 @@ same-length c = search needs
 
 returns : tie.Need-returns
 unfolding irBlockOf writtenOf
-returns c =
-    let at-write-block = c .before .before in
-    let at-readings = at-write-block .before .before .before in
-    (written-by 14 6 _ _ _ _ _ _ (at-write-block .write-block .ensures .0) (sym (slice-aggregate-write-block at-readings)) (search needs) (search needs), cc)
+returns c = (search (needs, written-by 14 6, slice-aggregate-write-block), cc)
 
 pub write-ir-spec : {M : Type 1} → statement M
 write-ir-spec =
