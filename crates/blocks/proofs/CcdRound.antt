@@ -117,11 +117,20 @@ right : (ws : List ℕ) (m : CcdMeaning) → ccdAnswerOf ws ≡ Block m → CcdR
 unfolding ccdAnswerOf ccdJudged ccdRestJudged windowOf
 right ws m e = search (held no-block, later no-block, same-block, eqb-true) depth 20
 
-module _ (ws : List ℕ) (m : CcdMeaning) (e : ccdAnswerOf ws ≡ Block m) where
+-- a block that was read is written back to the same words
+module _ (ws readings : List ℕ) (m : CcdMeaning) (e : ccdReadOf ws ≡ ccdRead readings (Block m)) where
+  answered : ccdAnswerOf ws ≡ Block m
+  unfolding ccdReadOf
+  answered = ap (λ (r : CcdRead). r .answer) e
+
+  taken : take 16 ws ≡ readings
+  unfolding ccdReadOf ccdReadingsOf
+  taken = rw answered at (ap (λ (r : CcdRead). r .readings) e)
+
   pub ccd-read-fits : CcdFits m
   unfolding ccdSaid windowOf cosineRight least greatest rows
   ccd-read-fits =
-      let r = right ws m e in
+      let r = right ws m answered in
       rw (← r .said)
       (record {
         x1 = allowed-most kind.winX1 (getD ws 16 0) (r .x1);
@@ -135,22 +144,10 @@ module _ (ws : List ℕ) (m : CcdMeaning) (e : ccdAnswerOf ws ≡ Block m) where
         cosine = leb-true (getD ws 23 0) 4095 (r .cosine);
       })
 
-  status-back : take 16 ws ++ ccdStatus m ≡ ws
+  pub ccd-read-status : readings ++ ccdStatus m ≡ ws
   unfolding ccdStatus ccdSaid windowOf sineRight visFlagsRight words
-  status-back =
-      let r = right ws m e in
+  ccd-read-status =
+      let r = right ws m answered in
       let sine = eqb-true (sineWord (sineIn (getD ws 22 0))) (getD ws 22 0) (r .sine) in
       let flags = eqb-true (visFlagWord (visFlagsIn (getD ws 24 0))) (getD ws 24 0) (r .flags) in
-      rw (← r .said, sine, flags) (put-together 16 9 ws (r .sized))
-
--- a block that was read is written back to the same words
-module _ (ws readings : List ℕ) (m : CcdMeaning) (e : ccdReadOf ws ≡ ccdRead readings (Block m)) where
-  pub ccd-answered : ccdAnswerOf ws ≡ Block m
-  unfolding ccdReadOf
-  ccd-answered = ap (λ (r : CcdRead). r .answer) e
-
-  pub ccd-read-status : readings ++ ccdStatus m ≡ ws
-  unfolding ccdReadOf ccdReadingsOf
-  ccd-read-status =
-      let first : ccdReadingsOf (ccdAnswerOf ws) ws ≡ readings = ap (λ (r : CcdRead). r .readings) e in
-      rw (← (rw ccd-answered at first)) (status-back ws m ccd-answered)
+      rw (← taken, ← r .said, sine, flags) (put-together 16 9 ws (r .sized))

@@ -130,11 +130,20 @@ right : (ws : List ℕ) (m : IrMeaning) → irAnswerOf ws ≡ Block m → IrRigh
 unfolding irAnswerOf irJudged
 right ws m e = search (held no-block, later no-block, same-block, eqb-true) depth 20
 
-module _ (ws : List ℕ) (m : IrMeaning) (e : irAnswerOf ws ≡ Block m) where
+-- a block that was read is written back to the same words
+module _ (ws readings : List ℕ) (m : IrMeaning) (e : irReadOf ws ≡ irRead readings (Block m)) where
+  answered : irAnswerOf ws ≡ Block m
+  unfolding irReadOf
+  answered = ap (λ (r : IrRead). r .answer) e
+
+  taken : take 14 ws ≡ readings
+  unfolding irReadOf irReadingsOf
+  taken = rw answered at (ap (λ (r : IrRead). r .readings) e)
+
   pub ir-read-fits : IrFits m
   unfolding irSaid greatest rows
   ir-read-fits =
-      let r = right ws m e in
+      let r = right ws m answered in
       let (lamp, shutter) = lamp-shutter-fits (getD ws 18 0) in
       rw (← r .said)
       (record {
@@ -145,23 +154,11 @@ module _ (ws : List ℕ) (m : IrMeaning) (e : irAnswerOf ws ≡ Block m) where
         shuttercurrent = shutter;
       })
 
-  status-back : take 14 ws ++ irStatus m ≡ ws
+  pub ir-read-status : readings ++ irStatus m ≡ ws
   unfolding irStatus irSaid lampShutterRight irFlagsRight words
-  status-back =
-      let r = right ws m e in
+  ir-read-status =
+      let r = right ws m answered in
       let (y1, y2) = lines-back (getD ws 14 0) (getD ws 15 0) (r .lines) in
       let lampshutter = eqb-true (lampShutterWord (lampShutterIn (getD ws 18 0))) (getD ws 18 0) (r .lampshutter) in
       let flags = eqb-true (irFlagWord (irFlagsIn (getD ws 19 0))) (getD ws 19 0) (r .flags) in
-      rw (← r .said, y1, y2, lampshutter, flags) (put-together 14 6 ws (r .sized))
-
--- a block that was read is written back to the same words
-module _ (ws readings : List ℕ) (m : IrMeaning) (e : irReadOf ws ≡ irRead readings (Block m)) where
-  pub ir-answered : irAnswerOf ws ≡ Block m
-  unfolding irReadOf
-  ir-answered = ap (λ (r : IrRead). r .answer) e
-
-  pub ir-read-status : readings ++ irStatus m ≡ ws
-  unfolding irReadOf irReadingsOf
-  ir-read-status =
-      let first : irReadingsOf (irAnswerOf ws) ws ≡ readings = ap (λ (r : IrRead). r .readings) e in
-      rw (← (rw ir-answered at first)) (status-back ws m ir-answered)
+      rw (← taken, ← r .said, y1, y2, lampshutter, flags) (put-together 14 6 ws (r .sized))

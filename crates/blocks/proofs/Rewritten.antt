@@ -19,8 +19,8 @@ use Rattle.blocks.specs.declared.ir.IrAnswer.the-variants as ir
 use Rattle.blocks.specs.declared.ccd.CcdMeaning.{CcdMeaning}
 use Rattle.blocks.specs.declared.ccd.CcdAnswer.the-variants as ccd
 use Rattle.blocks.proofs.Fields.{bit-set, bit-fits, sine-back}
-use Rattle.blocks.proofs.IrRound.{IrFits, ir-answered, ir-read-fits, ir-read-status}
-use Rattle.blocks.proofs.CcdRound.{CcdFits, ccd-answered, ccd-read-fits, ccd-read-status}
+use Rattle.blocks.proofs.IrRound.{IrFits, ir-read-fits, ir-read-status}
+use Rattle.blocks.proofs.CcdRound.{CcdFits, ccd-read-fits, ccd-read-status}
 
 -- a lamp's data field says whether it is on, and its current
 switched-on : (b : Bool) (c : ℕ) → isSet ((bit b + 2 * c) % 2) ≡ b
@@ -102,7 +102,7 @@ module _ (m : IrMeaning) (n : CcdMeaning) where
 -- a block that was read is written again, beside what the other block could say
 module _ (ws readings : List ℕ) (m : IrMeaning) (n : CcdMeaning) (e : irReadOf ws ≡ irRead readings (ir.Block m)) (c : CcdFits n) where
   pub ir-read-in-range : inRange (headSaid m n) ≡ true
-  ir-read-in-range = said-in-range m n (ir-read-fits ws m (ir-answered ws readings m e)) c
+  ir-read-in-range = said-in-range m n (ir-read-fits ws readings m e) c
 
   pub ir-read-written : irBlockOf (headSaid m n) (flagsSaid m n) (m .flags .acquired) readings (irBitsSaid m) ≡ ws
   unfolding irBlockOf
@@ -110,9 +110,9 @@ module _ (ws readings : List ℕ) (m : IrMeaning) (n : CcdMeaning) (e : irReadOf
 
 module _ (ws readings : List ℕ) (m : IrMeaning) (n : CcdMeaning) (e : ccdReadOf ws ≡ ccdRead readings (ccd.Block n)) (i : IrFits m) where
   pub ccd-read-in-range : inRange (headSaid m n) ≡ true
-  ccd-read-in-range = said-in-range m n i (ccd-read-fits ws n (ccd-answered ws readings n e))
+  ccd-read-in-range = said-in-range m n i (ccd-read-fits ws readings n e)
 
   pub ccd-read-written : ccdBlockOf (headSaid m n) (flagsSaid m n) (n .flags .acquired) readings (ccdBitsSaid n) ≡ ws
   unfolding ccdBlockOf
   ccd-read-written =
-      rw (ccd-said m n (ccd-read-fits ws n (ccd-answered ws readings n e) .magnitude)) (ccd-read-status ws readings n e)
+      rw (ccd-said m n (ccd-read-fits ws readings n e .magnitude)) (ccd-read-status ws readings n e)
