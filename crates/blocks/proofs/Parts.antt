@@ -13,7 +13,7 @@ use Rattle.words.specs.Kinds as kind
 use Rattle.words.specs.Kinds.{least, greatest, allowed}
 use Rattle.blocks.specs.declared.refusal.Refusal.{Refusal}
 
--- a test of the block's length, and then of its words after the n readings, is one of the status words
+-- where a block's length is tested and then its words after the n readings are judged, the status words are judged
 module _ {A : Type 0} (refused : A) (judged : (ℕ → ℕ) → A) (n : ℕ) (readings status : List ℕ) (sized : length readings ≡ n) where
   word-at : (k : ℕ) → getD (readings ++ status) (n + k) 0 ≡ getD status k 0
   word-at k = rw (← sized) (getD-append-add readings status k 0)

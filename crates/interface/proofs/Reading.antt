@@ -35,6 +35,7 @@ pub record Reader {M A R : Type 0} (says : M → A) (refused : Refusal → A) (a
   refused-after : (r : Refusal) (block old : List ℕ) → after (refused r) block old ≡ old
   bounded : (block : List ℕ) → number (answerOf block) < bound
 
+-- the bound holds of a choice where it holds of both
 either : {A : Type 0} (number : A → ℕ) (b : Bool) (x y : A) → number x < bound → number y < bound → number (cond b x y) < bound
 either number true x y hx hy = hx
 either number false x y hx hy = hy

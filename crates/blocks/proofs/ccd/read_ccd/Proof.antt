@@ -49,14 +49,14 @@ enum-told-2 c = search needs
 
 returns-2 : tie.Need-returns-2
 unfolding ccdReadOf ccdAnswerOf ccdReadingsOf
-returns-2 c = read-as ccdRead ccdReadingsOf _ _ _ _ _ (search (needs, equal)) (c .enum-told2 .given .1) refl
+returns-2 c = search (needs, equal, read-as ccdRead ccdReadingsOf)
 
 readings-of-requires : tie.Need-readings-of-requires
 readings-of-requires c κs = search needs
 
 returns-3 : tie.Need-returns-3
 unfolding ccdReadOf ccdAnswerOf ccdReadingsOf
-returns-3 c = read-as ccdRead ccdReadingsOf _ _ _ _ _ (search (needs, equal)) (c .before .enum-told .given .1) (c .readings-of .ensures)
+returns-3 c = search (needs, equal, read-as ccdRead ccdReadingsOf)
 
 pub read-ccd-spec : {M : Type 1} → statement M
 read-ccd-spec =

@@ -40,14 +40,14 @@ enum-told-2 c = search needs
 
 returns-2 : tie.Need-returns-2
 unfolding irReadOf irAnswerOf irReadingsOf
-returns-2 c = read-as irRead irReadingsOf _ _ _ _ _ (search (needs, equal)) (c .enum-told2 .given .1) refl
+returns-2 c = search (needs, equal, read-as irRead irReadingsOf)
 
 readings-of-requires : tie.Need-readings-of-requires
 readings-of-requires c κs = search needs
 
 returns-3 : tie.Need-returns-3
 unfolding irReadOf irAnswerOf irReadingsOf
-returns-3 c = read-as irRead irReadingsOf _ _ _ _ _ (search (needs, equal)) (c .before .enum-told .given .1) (c .readings-of .ensures)
+returns-3 c = search (needs, equal, read-as irRead irReadingsOf)
 
 pub read-ir-spec : {M : Type 1} → statement M
 read-ir-spec =
