@@ -1,5 +1,5 @@
 //! Measures the library against the implementation written from document 01,
-//! both behind the same interface, and prints docs/PERFORMANCE.md.
+//! both behind the same interface, and prints the table of docs/PERFORMANCE.md.
 
 mod counting;
 mod measured;
@@ -37,7 +37,7 @@ fn one_pass(name: &str, which: &str) -> ExitCode {
 const HEADING: &str = "\
 # Performance
 
-Printed whole by `cargo run --release -p bench` in `rust/`, which builds both sides for release and measures them in one run on one machine.
+The table is made by `cargo run --release -p bench` in `rust/`, which builds both sides for release and measures them in one run on one machine.
 
 `paper` is document 01 written out in Rust without proofs (`rust/paper`). Both sides stand behind the same interface: the state is an array of
 35 numbers, read and stored by every call, and no call is inlined. A ratio above 1 means that the library takes more than `paper`.
