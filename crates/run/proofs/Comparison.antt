@@ -12,11 +12,11 @@ use Rattle.plan.specs.Read.{readRecord}
 use Rattle.plan.specs.Stored.{planOf}
 use Rattle.plan.proofs.Recorded.{record-long}
 use Rattle.schedule.specs.Schedule.{Schedule}
-use Rattle.schedule.specs.Translate.{scheduleOf, translateOf, filled, tickList, wordList}
+use Rattle.schedule.specs.Translate.{mostWords, scheduleOf, translateOf, filled, tickList, wordList}
 use Rattle.schedule.specs.declared.Translated.{Translated}
 use Rattle.run.specs.Run.{momentsOf, headAfter, logOf}
 use Rattle.run.specs.Rehearse.{rehearsedBy, rehearseOf, translationOf, runOf, runRecord, runTimes}
-use Rattle.run.specs.Compare.{same, room, comparedBy, comparedOf}
+use Rattle.run.specs.Compare.{same, comparedBy, comparedOf}
 use Rattle.run.specs.declared.Rehearsed.{Rehearsed}
 use Rattle.run.specs.declared.compare.Compared.{Compared}
 use Rattle.run.proofs.Accepted.{translated-list, translated-end, translated-acts}
@@ -39,24 +39,24 @@ abbrev Promised : Head → List ℕ → List ℕ → List ℕ → Compared → L
 Promised s bs R A c R' A' =
     let sch = scheduleOf s (planOf bs) in
     (c ≡ comparedOf s bs)
-    × ((R' ≡ filled (translateOf s bs room room) (runRecord s sch) R) × (A' ≡ filled (translateOf s bs room room) (runTimes s sch) A))
+    × ((R' ≡ filled (translateOf s bs mostWords mostWords) (runRecord s sch) R) × (A' ≡ filled (translateOf s bs mostWords mostWords) (runTimes s sch) A))
 
-module _ (s : Head) (bs W T R A : List ℕ) (longW : length W ≡ 256) (longT : length T ≡ 256)
+module _ (s : Head) (bs W T R A : List ℕ) (longW : length W ≡ mostWords) (longT : length T ≡ mostWords)
     {W' T' R' A' : List ℕ} {r : Rehearsed} (ran : Answers s bs W T R A r W' T' R' A') where
   abbrev sch : Schedule
   sch = scheduleOf s (planOf bs)
 
-  told : r ≡ rehearsedBy s sch (translateOf s bs room room)
+  told : r ≡ rehearsedBy s sch (translateOf s bs mostWords mostWords)
   unfolding rehearseOf
   told = rw (longW, longT) at (ran .0)
 
-  answer : translationOf r ≡ translateOf s bs room room
-  answer = ap translationOf told ∙ translation-back s sch (translateOf s bs room room)
+  answer : translationOf r ≡ translateOf s bs mostWords mostWords
+  answer = ap translationOf told ∙ translation-back s sch (translateOf s bs mostWords mostWords)
 
-  rows-are : R' ≡ filled (translateOf s bs room room) (runRecord s sch) R
+  rows-are : R' ≡ filled (translateOf s bs mostWords mostWords) (runRecord s sch) R
   rows-are = rw answer at (ran .1 .1 .1 .0)
 
-  times-are : A' ≡ filled (translateOf s bs room room) (runTimes s sch) A
+  times-are : A' ≡ filled (translateOf s bs mostWords mostWords) (runTimes s sch) A
   times-are = rw answer at (ran .1 .1 .1 .1 .0)
 
   pub way-refused : {n p : ℕ} → r ≡ Rehearsed.Refused n p → Promised s bs R A (Compared.Refused n p) R' A'
@@ -68,7 +68,7 @@ module _ (s : Head) (bs W T R A : List ℕ) (longW : length W ≡ 256) (longT : 
   way-short is = (rw (← answer, is), (rows-are, times-are))
 
   module _ {h : Head} {n e a : ℕ} (is : r ≡ Rehearsed.Done h n e a) where
-    done : translateOf s bs room room ≡ Translated.Done n e
+    done : translateOf s bs mostWords mostWords ≡ Translated.Done n e
     unfolding translationOf
     done = sym answer ∙ ap translationOf is
 

@@ -5,7 +5,7 @@ use mathlib.Core.Path.{_≡_}
 use mathlib.Core.Bool.{true}
 use mathlib.Core.List.{List}
 use Prim.Native.Nat.{ℕ}
-use borrow.Author.Tests.{le-leb}
+use native.Mathlib.Omega.{arith}
 use lib.ListN.{length}
 use Rattle.head.specs.declared.state.Head.{Head}
 use Rattle.plan.specs.Read.{readRecord}
@@ -13,15 +13,14 @@ use Rattle.plan.specs.Reading.{settingsRead, logRead}
 use Rattle.plan.specs.Stored.{orders, planOf}
 use Rattle.plan.specs.Words.{itemsOfAll}
 use Rattle.plan.specs.declared.order.Order.{Order}
-use Rattle.plan.proofs.Accepted.{accepted-fit, accepted-few}
+use Rattle.plan.proofs.Accepted.{accepted-fit}
 use Rattle.plan.proofs.Recovered.{record-determines}
 use Rattle.schedule.specs.Schedule.{Schedule, scheduleFrom}
-use Rattle.schedule.specs.Translate.{fit, scheduleOf, answerOfPlan, translateOf}
-use Rattle.schedule.specs.declared.Translated.{Translated}
-use Rattle.schedule.proofs.Plans.{plan-count}
+use Rattle.schedule.specs.Translate.{fit, mostWords}
+use Rattle.schedule.proofs.Accepted.{accepted-schedule, accepted-done}
 use Rattle.run.specs.Run.{headAfter, logOf}
 use Rattle.run.specs.Rehearse.{runOf, runRecord}
-use Rattle.run.specs.Compare.{same, room, comparedBy, comparedOf}
+use Rattle.run.specs.Compare.{same, comparedBy, comparedOf}
 use Rattle.run.specs.declared.compare.Compared.{Compared}
 use Rattle.run.proofs.Whole.{run-whole}
 use Rattle.run.proofs.Comparing.{same-self, same-equal}
@@ -34,18 +33,6 @@ equal-says s sch os e =
     record-determines _ _ _ _ (same-equal (runRecord s sch) (readRecord (s .settings) (orders os)) e)
 
 module _ (s : Head) (bs : List ℕ) (os : List Order) (h : fit s ≡ true) (e : planOf bs ≡ orders os) where
-  scheduled : scheduleOf s (planOf bs) ≡ scheduleFrom s 0 (itemsOfAll os)
-  unfolding scheduleOf
-  scheduled = rw e
-
-  -- there is room for its words, so that it is translated
-  translated : translateOf s bs room room
-      ≡ Translated.Done (length (scheduleFrom s 0 (itemsOfAll os) .list)) (scheduleFrom s 0 (itemsOfAll os) .end)
-  unfolding translateOf answerOfPlan
-  translated =
-      let fits = plan-count s h os (accepted-fit bs os e) (accepted-few bs os e) in
-      rw (h, scheduled, e, le-leb (length (scheduleFrom s 0 (itemsOfAll os) .list)) 256 fits)
-
   -- the head's log and settings are the reading's, so their records are equal
   log-is : logOf (runOf s (scheduleFrom s 0 (itemsOfAll os))) ≡ logRead (s .settings) os
   log-is = run-whole s os h (accepted-fit bs os e) .log
@@ -58,4 +45,4 @@ module _ (s : Head) (bs : List ℕ) (os : List Order) (h : fit s ≡ true) (e : 
       ≡ Compared.Done (length (logRead (s .settings) os)) (scheduleFrom s 0 (itemsOfAll os) .end) true
   unfolding comparedOf comparedBy
   compared-equal =
-      rw (translated, scheduled, record-is, log-is, same-self (readRecord (s .settings) (planOf bs)))
+      rw (accepted-done s bs os h e mostWords mostWords (omega arith) (omega arith), accepted-schedule s bs os h e, record-is, log-is, same-self (readRecord (s .settings) (planOf bs)))

@@ -9,7 +9,7 @@ use Rattle.head.specs.declared.state.Head.{Head}
 use Rattle.plan.specs.Read.{readRecord}
 use Rattle.plan.specs.Stored.{Plan, planOf}
 use Rattle.schedule.specs.Schedule.{Schedule}
-use Rattle.schedule.specs.Translate.{scheduleOf, translateOf}
+use Rattle.schedule.specs.Translate.{mostWords, scheduleOf, translateOf}
 use Rattle.schedule.specs.declared.Translated.{Translated}
 use Rattle.run.specs.Run.{logOf}
 use Rattle.run.specs.Rehearse.{runOf, runRecord}
@@ -31,11 +31,8 @@ comparedBy s p sch (Translated.Refused n q) = Compared.Refused n q
 comparedBy s p sch (Translated.Short n) = Compared.Refused 10 0
 
 -- The translation has room for the most words that a plan has.
-abbrev pub room : ℕ
-room = 256
-
 unfoldable pub comparedOf : Head → List ℕ → Compared
-comparedOf s bs = comparedBy s (planOf bs) (scheduleOf s (planOf bs)) (translateOf s bs room room)
+comparedOf s bs = comparedBy s (planOf bs) (scheduleOf s (planOf bs)) (translateOf s bs mostWords mostWords)
 
 -- The refusal's number of document 01, 0 for none, and its byte place.
 unfoldable pub comparedNumber : Compared → ℕ

@@ -6,14 +6,15 @@ use head::state::Settings;
 use plan::log::ROW;
 use plan::reading::Read;
 use plan::reading::read_plan;
+use schedule::translate::MOST_WORDS;
 ghost use mathlib.Core.Path.{_≡_};
 ghost use Prim.Native.Nat.{_+_, _*_, _≤_};
 ghost use lib.ListN.{length, take};
 ghost use Rattle.plan.specs.Read.{readRecord};
 ghost use Rattle.plan.specs.Stored.{planOf};
-ghost use Rattle.schedule.specs.Translate.{scheduleOf, translateOf, filled};
+ghost use Rattle.schedule.specs.Translate.{mostWords, scheduleOf, translateOf, filled};
 ghost use Rattle.run.specs.Rehearse.{runRecord, runTimes};
-ghost use Rattle.run.specs.Compare.{same, room, comparedOf};
+ghost use Rattle.run.specs.Compare.{same, comparedOf};
 
 // What comparing answers.
 pub enum Compared {
@@ -63,12 +64,12 @@ fn agrees(settings: Settings, plan: &[u8], rows: &[u16], acts: usize) -> bool
 // translation's and writes nothing.
 pub fn compare(head: Head, plan: &[u8], rows: &mut [u16; 1365], times: &mut [u32; 64]) -> Compared
     ensures { λ r. ⌜ r ≡ comparedOf head (now (plan .entry)) ⌝ }
-    ensures { λ r. ⌜ now (rows .exit) ≡ filled (translateOf head (now (plan .entry)) room room) (runRecord head (scheduleOf head (planOf (now (plan .entry))))) (now (rows .entry)) ⌝ }
-    ensures { λ r. ⌜ now (times .exit) ≡ filled (translateOf head (now (plan .entry)) room room) (runTimes head (scheduleOf head (planOf (now (plan .entry))))) (now (times .entry)) ⌝ }
+    ensures { λ r. ⌜ now (rows .exit) ≡ filled (translateOf head (now (plan .entry)) mostWords mostWords) (runRecord head (scheduleOf head (planOf (now (plan .entry))))) (now (rows .entry)) ⌝ }
+    ensures { λ r. ⌜ now (times .exit) ≡ filled (translateOf head (now (plan .entry)) mostWords mostWords) (runTimes head (scheduleOf head (planOf (now (plan .entry))))) (now (times .entry)) ⌝ }
 {
     // Room for the words of every plan.
-    let mut words = [0u16; 256];
-    let mut ticks = [0u32; 256];
+    let mut words = [0u16; MOST_WORDS];
+    let mut ticks = [0u32; MOST_WORDS];
     let rehearsed = rehearse(head, plan, &mut words, &mut ticks, rows, times);
     match rehearsed {
         Rehearsed::Done {

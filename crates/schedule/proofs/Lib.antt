@@ -3,6 +3,7 @@ pub mod Orders
 pub mod Ready
 pub mod Clocked
 pub mod Plans
+pub mod Accepted
 pub mod OrderClocked
 pub mod OrderLaid
 pub mod Laying

@@ -17,7 +17,7 @@ use Rattle.plan.proofs.Laid.{sets-append}
 use Rattle.plan.proofs.Judging.{from-end, from-many, from-fault, from-order}
 use Rattle.schedule.specs.Clock.{Near, early, clockedFrom, clockThrough}
 use Rattle.schedule.specs.Filled.{orderTicks, timedBy, wordTotal, laidOf, wordsLaid, ticksLaid}
-use Rattle.schedule.specs.Translate.{tickList, wordList}
+use Rattle.schedule.specs.Translate.{mostWords, tickList, wordList}
 use Rattle.schedule.specs.declared.Translated.{Translated}
 use Rattle.schedule.specs.declared.clock.Clock.{Clock}
 use Rattle.schedule.proofs.Clocked.{clocked-end, near-more}
@@ -123,10 +123,10 @@ module _ {words₀ ticks₀ bs : List ℕ} {start : Clock} where
         pub passing-early : Near early clock
         passing-early = near-more (65535 * k) early clock (omega arith) (h .near)
 
-        pub passing-fit-words : 256 ≤ length words₀ → next + length (wordsOf (orderAt bs at)) ≤ length words
+        pub passing-fit-words : mostWords ≤ length words₀ → next + length (wordsOf (orderAt bs at)) ≤ length words
         passing-fit-words r = let s = h .small in let l = h .longWords in omega (arith, fit-few (orderAt bs at) passing-fits)
 
-        pub passing-fit-ticks : 256 ≤ length ticks₀ → next + length (wordsOf (orderAt bs at)) ≤ length ticks
+        pub passing-fit-ticks : mostWords ≤ length ticks₀ → next + length (wordsOf (orderAt bs at)) ≤ length ticks
         passing-fit-ticks r = let s = h .small in let l = h .longTicks in omega (arith, fit-few (orderAt bs at) passing-fits)
 
         rest : Plan

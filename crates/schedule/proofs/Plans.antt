@@ -1,5 +1,5 @@
--- A plan whose orders are known and fit, for a head that is fit: its words go at the earliest ticks, the clock gives them, they are at
--- most 256 and the end is at most 4,194,240.
+-- A plan whose orders are known and fit, for a head that is fit: the clock gives the ticks of its words, they are at most 256 and the end
+-- is at most 4,194,240.
 -- Assumes nothing.
 use mathlib.Core.Path.{_≡_, refl}
 use mathlib.Core.Bool.{Bool, true, false, cond, _&&_}
@@ -18,18 +18,19 @@ use Rattle.head.specs.Tick.{ticksOf}
 use Rattle.head.specs.declared.state.Head.{Head}
 use Rattle.head.proofs.Bounds.{bounds, length-bounds}
 use Rattle.plan.specs.Codes as code
+use Rattle.plan.specs.Stored.{mostOrders}
 use Rattle.plan.specs.Words.{Item, itemsOf, itemsOfAll}
 use Rattle.plan.specs.declared.order.Order.{Order}
 use Rattle.schedule.specs.Earliest.{atRest, delayOf, startWord, hkWord}
-use Rattle.schedule.specs.Schedule.{Timed, readied, spanOf, sent, scheduleFrom, Earliest, Rising}
+use Rattle.schedule.specs.Schedule.{Timed, readied, spanOf, sent, scheduleFrom, Rising}
 use Rattle.words.proofs.Allowed.{allowed-bits}
-use Rattle.schedule.specs.Clock.{Near, clockOf, clockAfter, clockPaused, clockThrough, clockedFrom, longestWord}
+use Rattle.schedule.specs.Clock.{Near, clockOf, clockAfter, clockPaused, clockThrough, clockedFrom, longestWord, latest}
 use Rattle.schedule.specs.declared.clock.Clock.{Clock}
-use Rattle.schedule.specs.Translate.{fit}
+use Rattle.schedule.specs.Translate.{fit, mostWords}
 use Rattle.plan.proofs.Accepted.{AllFit}
 use Rattle.schedule.proofs.InTurn.{Step, word, wait, InTurn, empty, given, paused, word-kind, word-bits}
 use Rattle.schedule.proofs.Orders.{ByOrder, Meant, by-order, by-orders}
-use Rattle.schedule.proofs.Ready.{Idle, idle-ticks, wait-most, delay-wait, readied-idle, sent-idle, earliest}
+use Rattle.schedule.proofs.Ready.{Idle, idle-ticks, wait-most, delay-wait, readied-idle, sent-idle}
 use Rattle.schedule.proofs.Clocked.{at-first, clocked, near-after, near-paused, near-more}
 
 -- how many words steps have, and how many ticks they take at most: a word waits for motions at most 3175 ticks (127 cover steps), and no
@@ -175,9 +176,6 @@ module _ (s : Head) (h : fit s ≡ true) where
     turn : InTurn (s .begun .count) (itemsOfAll os) (plan-steps os all .steps)
     turn = plan-steps os all .turn (s .begun .count)
 
-    pub plan-earliest : Earliest s (itemsOfAll os)
-    plan-earliest = earliest turn s fit-idle
-
     pub plan-clocked : scheduleFrom s 0 (itemsOfAll os) ≡ clockedFrom (clockOf s 0) (itemsOfAll os)
     unfolding clockOf
     plan-clocked = clocked turn s fit-idle (clockOf s 0) (at-first s 0)
@@ -185,8 +183,8 @@ module _ (s : Head) (h : fit s ≡ true) where
     pub plan-rising : Rising 0 (scheduleFrom s 0 (itemsOfAll os) .list) (scheduleFrom s 0 (itemsOfAll os) .end)
     plan-rising = rising turn s fit-idle 0
 
-    pub plan-count : length os ≤ 64 → length (scheduleFrom s 0 (itemsOfAll os) .list) ≤ 256
+    pub plan-count : length os ≤ mostOrders → length (scheduleFrom s 0 (itemsOfAll os) .list) ≤ mostWords
     plan-count l = let m = plan-steps os all .holds .0 in omega (arith, count-is turn s 0)
 
-    pub plan-end : length os ≤ 64 → scheduleFrom s 0 (itemsOfAll os) .end ≤ 4194240
+    pub plan-end : length os ≤ mostOrders → scheduleFrom s 0 (itemsOfAll os) .end ≤ latest
     plan-end l = let m = plan-steps os all .holds .1 in omega (arith, end-within turn s fit-idle 0)

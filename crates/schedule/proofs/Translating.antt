@@ -20,7 +20,7 @@ use Rattle.plan.proofs.Judging.{plan-header, plan-orders}
 use Rattle.schedule.specs.Clock.{Near, clockOf, clockedFrom, clockThrough}
 use Rattle.schedule.specs.Filled.{timedBy, wordTotal, laidOf, wordsLaid, ticksLaid}
 use Rattle.schedule.specs.Schedule.{Timed, Schedule}
-use Rattle.schedule.specs.Translate.{fit, scheduleOf, answerOfPlan, translateOf, filled, tickList, wordList}
+use Rattle.schedule.specs.Translate.{mostWords, fit, scheduleOf, answerOfPlan, translateOf, filled, tickList, wordList}
 use Rattle.schedule.specs.declared.Translated.{Translated}
 use Rattle.schedule.specs.declared.clock.Clock.{Clock}
 use Rattle.schedule.proofs.Clocked.{near-first}
@@ -129,7 +129,7 @@ module _ (s : Head) (bs W T : List ℕ) {f : Bool} (is-fit : f ≡ fit s) where
           unfolding translateOf answerOfPlan
           answer = rw (fits) (ap (λ (p : Plan). answerOfPlan p (scheduleOf s (planOf bs)) (length W) (length T)) plan ∙ rw long)
 
-          pub way-few : total ≤ 256
+          pub way-few : total ≤ mostWords
           unfolding scheduleOf
           way-few =
               let os = ordersIn (planOf bs) in
@@ -142,7 +142,7 @@ module _ (s : Head) (bs W T : List ℕ) {f : Bool} (is-fit : f ≡ fit s) where
 
           -- a list with the plan's values from its front on, copied
           copied : (values : Schedule → List ℕ) (own zeros old : List ℕ) → length (values (timedBy (clockOf s 0) (ordersIn (planOf bs)))) ≡ total
-              → length zeros ≡ 256 → own ≡ sets zeros 0 (values (timedBy (clockOf s 0) (ordersIn (planOf bs))))
+              → length zeros ≡ mostWords → own ≡ sets zeros 0 (values (timedBy (clockOf s 0) (ordersIn (planOf bs))))
               → paste old 0 own total ≡ values (scheduleOf s (planOf bs)) ++ drop (length (values (scheduleOf s (planOf bs)))) old
           copied values own zeros old n room is =
               pasted (values (timedBy (clockOf s 0) (ordersIn (planOf bs)))) zeros own old n (omega (arith, way-few)) is
@@ -153,7 +153,7 @@ module _ (s : Head) (bs W T : List ℕ) {f : Bool} (is-fit : f ≡ fit s) where
             unfolding filled
             way-short-ticks h = (sym (answer ∙ rw (le-leb total (length W) room, lt-leb total (length T) h)), (refl, refl))
 
-            pub way-done : total ≤ length T → (own times zeros naughts : List ℕ) → length zeros ≡ 256 → length naughts ≡ 256
+            pub way-done : total ≤ length T → (own times zeros naughts : List ℕ) → length zeros ≡ mostWords → length naughts ≡ mostWords
                 → own ≡ wordsLaid (ordersFrom mostOrders bs 3) (clockOf s 0) 0 zeros
                 → times ≡ ticksLaid (ordersFrom mostOrders bs 3) (clockOf s 0) 0 naughts
                 → {W' T' : List ℕ} → W' ≡ paste W 0 own total → T' ≡ paste T 0 times total

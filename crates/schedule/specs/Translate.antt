@@ -1,13 +1,13 @@
 -- Document 01, "Plans": what translation answers, and what it leaves in the two buffers.
 -- Assumes nothing.
-use Prim.Native.Nat.{ℕ}
+use Prim.Native.Nat.{ℕ, _*_}
 use mathlib.Core.Bool.{Bool, cond, _&&_}
 use mathlib.Core.List.{List, [], map, _++_}
 use lib.Dec.{leb, eqb}
 use lib.ListN.{length, take, drop}
 use Rattle.head.specs.Range.{inRange}
 use Rattle.head.specs.declared.state.Head.{Head}
-use Rattle.plan.specs.Stored.{Plan, orders, refused, planOf}
+use Rattle.plan.specs.Stored.{Plan, orders, refused, mostOrders, planOf}
 use Rattle.plan.specs.Words.{send, itemsOfAll}
 use Rattle.plan.specs.declared.encoding.Words.{Words}
 use Rattle.schedule.specs.Earliest.{atRest}
@@ -20,6 +20,10 @@ use Rattle.schedule.specs.declared.Translated.the-variants.{Done, Refuse
 -- In range, idle, and nothing moving.
 unfoldable pub fit : Head → Bool
 fit s = inRange s && eqb (s .work .busy) 0 && atRest s
+
+-- An order has at most four words, so a plan has at most 256.
+abbrev pub mostWords : ℕ
+mostWords = 4 * mostOrders
 
 -- The schedule of a plan that is read; the clock starts at 0.
 unfoldable pub scheduleOf : Head → Plan → Schedule

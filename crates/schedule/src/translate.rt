@@ -16,14 +16,14 @@ ghost use lib.Seq.{paste};
 ghost use Rattle.plan.specs.Stored.{ordersFrom, mostOrders, planOf};
 ghost use Rattle.schedule.specs.Clock.{Near};
 ghost use Rattle.schedule.specs.Filled.{laidOf, wordsLaid, ticksLaid, WhenDone};
-ghost use Rattle.schedule.specs.Translate.{fit, translateOf, scheduleOf, filled, tickList, wordList};
+ghost use Rattle.schedule.specs.Translate.{fit, mostWords, translateOf, scheduleOf, filled, tickList, wordList};
 
 // The most words that a plan has: four for each order.
-pub const MOST_WORDS: usize = 256;
+pub const MOST_WORDS: usize = 4 * MOST_ORDERS;
 
 // The orders of a plan, judged one by one; their words and ticks from the first place on, as far as they go.
 fn lay(words: &mut [u16], ticks: &mut [u32], plan: &[u8], start: Clock) -> Translated
-    requires { ⌜ 256 ≤ length (now words) ⌝ ∗ ⌜ 256 ≤ length (now ticks) ⌝ ∗ ⌜ Near 0 start ⌝ }
+    requires { ⌜ mostWords ≤ length (now words) ⌝ ∗ ⌜ mostWords ≤ length (now ticks) ⌝ ∗ ⌜ Near 0 start ⌝ }
     ensures { λ r. ⌜ r ≡ laidOf (ordersFrom mostOrders (now (plan .entry)) 3) start 0 ⌝ }
     ensures { λ r. ⌜ WhenDone r (now (words .exit)) (wordsLaid (ordersFrom mostOrders (now (plan .entry)) 3) start 0 (now (words .entry))) ⌝ }
     ensures { λ r. ⌜ WhenDone r (now (ticks .exit)) (ticksLaid (ordersFrom mostOrders (now (plan .entry)) 3) start 0 (now (ticks .entry))) ⌝ }

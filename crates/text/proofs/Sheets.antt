@@ -14,11 +14,11 @@ use Rattle.plan.specs.Read.{atFront}
 use Rattle.plan.specs.Stored.{planOf}
 use Rattle.plan.proofs.Recorded.{record-long}
 use Rattle.schedule.specs.Schedule.{Schedule}
-use Rattle.schedule.specs.Translate.{scheduleOf, translateOf, filled, wordList, tickList}
+use Rattle.schedule.specs.Translate.{mostWords, scheduleOf, translateOf, filled, wordList, tickList}
 use Rattle.schedule.specs.declared.Translated.{Translated}
 use Rattle.run.specs.Run.{headAfter, logOf, timesOf}
 use Rattle.run.specs.Rehearse.{runOf, runRecord, runTimes}
-use Rattle.run.specs.Compare.{room, comparedBy, comparedOf}
+use Rattle.run.specs.Compare.{comparedBy, comparedOf}
 use Rattle.run.specs.declared.compare.Compared.{Compared}
 use Rattle.run.proofs.Quiet.{times-long}
 use Rattle.run.proofs.Accepted.{translated-list, translated-end, translated-acts}
@@ -35,7 +35,7 @@ sheet-too-long bs h = rw (lt-ltb 4096 (length bs) h)
 record Ran (bs : List ℕ) (s : Head) (n : ℕ) : Type 0 where
   words : ℕ
   end : ℕ
-  is : translateOf s bs room room ≡ Translated.Done words end
+  is : translateOf s bs mostWords mostWords ≡ Translated.Done words end
   acts : n ≡ length (logOf (runOf s (scheduleOf s (planOf bs))))
 
 -- they are at most 64
@@ -71,9 +71,9 @@ module _ {bs : List ℕ} {s : Head} {r : Compared} (h : Answered bs s r) where
   module _ {n e : ℕ} {q : Bool} (done : r ≡ Compared.Done n e q) where
     translated : Ran bs s n
     unfolding comparedOf comparedBy
-    translated = go (translateOf s bs room room) refl (sym done ∙ h .is)
+    translated = go (translateOf s bs mostWords mostWords) refl (sym done ∙ h .is)
       where
-        go : (t : Translated) → translateOf s bs room room ≡ t → Compared.Done n e q ≡ comparedBy s (planOf bs) sch t
+        go : (t : Translated) → translateOf s bs mostWords mostWords ≡ t → Compared.Done n e q ≡ comparedBy s (planOf bs) sch t
             → Ran bs s n
         go (Translated.Done m f) is eq = record { words = m; end = f; is = is; acts = cc }
         go (Translated.Refused m p) is eq = let z : _≡_ {A = ℕ} 0 1 = cc in absurd (omega arith)
@@ -83,12 +83,12 @@ module _ {bs : List ℕ} {s : Head} {r : Compared} (h : Answered bs s r) where
     acts-few = rw (translated .acts) (run-few translated)
 
     -- a buffer begins with the values that filled it
-    front : (values old : List ℕ) → filled (translateOf s bs room room) values old ≡ atFront values old
+    front : (values old : List ℕ) → filled (translateOf s bs mostWords mostWords) values old ≡ atFront values old
     unfolding filled atFront
     front values old = rw (translated .is)
 
     -- and is as long as it was
-    pub rows-kept : (R₀ : List ℕ) {R : List ℕ} → length R₀ ≡ 1365 → R ≡ filled (translateOf s bs room room) (runRecord s sch) R₀ → length R ≡ 1365
+    pub rows-kept : (R₀ : List ℕ) {R : List ℕ} → length R₀ ≡ 1365 → R ≡ filled (translateOf s bs mostWords mostWords) (runRecord s sch) R₀ → length R ≡ 1365
     unfolding runRecord
     rows-kept R₀ long is =
         let log = logOf (runOf s sch) in
@@ -98,7 +98,7 @@ module _ {bs : List ℕ} {s : Head} {r : Compared} (h : Answered bs s r) where
         ∙ front-long (recordOf log last) R₀ (rw (record-long log last) (omega arith))
         ∙ long
 
-    pub times-kept : (T₀ : List ℕ) {T : List ℕ} → length T₀ ≡ 64 → T ≡ filled (translateOf s bs room room) (runTimes s sch) T₀ → length T ≡ 64
+    pub times-kept : (T₀ : List ℕ) {T : List ℕ} → length T₀ ≡ 64 → T ≡ filled (translateOf s bs mostWords mostWords) (runTimes s sch) T₀ → length T ≡ 64
     unfolding runTimes
     times-kept T₀ long is =
         let ticks = timesOf 0 (runOf s sch) in
@@ -106,8 +106,8 @@ module _ {bs : List ℕ} {s : Head} {r : Compared} (h : Answered bs s r) where
         let same = times-long 0 (runOf s sch) in
         ap length (is ∙ front ticks T₀) ∙ front-long ticks T₀ (omega arith) ∙ long
 
-    pub sheet-done : (R₀ T₀ : List ℕ) {R T : List ℕ} → R ≡ filled (translateOf s bs room room) (runRecord s sch) R₀
-        → T ≡ filled (translateOf s bs room room) (runTimes s sch) T₀
+    pub sheet-done : (R₀ T₀ : List ℕ) {R T : List ℕ} → R ≡ filled (translateOf s bs mostWords mostWords) (runRecord s sch) R₀
+        → T ≡ filled (translateOf s bs mostWords mostWords) (runTimes s sch) T₀
         → sheetFor bs ≡ sheetOf (entriesIn n R) (take n T) (rowSettings (rowAt R n)) e q
     unfolding comparedText runRecord runTimes
     sheet-done R₀ T₀ rows times =

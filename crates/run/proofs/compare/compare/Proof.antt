@@ -4,14 +4,15 @@ use mathlib.Core.Path.{_≡_}
 use Prim.Native.Nat.{ℕ}
 use native.Mathlib.Omega.{arith}
 use lib.ListN.{length, replicate, length-replicate}
+use Rattle.schedule.specs.Translate.{mostWords}
 use Rattle.run.proofs.Comparison.{way-acts, way-done, way-refused, way-short}
 use borrow.Author.Needs.{needs}
 use Rattle.run.proofs.compare.compare.Statement.{statement}
 use Rattle.run.proofs.compare.compare.Tie as tie
 
 -- the buffers for words and ticks
-zeros : length (replicate {A = ℕ} 256 0) ≡ 256
-zeros = length-replicate {A = ℕ} 256 0
+zeros : length (replicate {A = ℕ} mostWords 0) ≡ mostWords
+zeros = length-replicate {A = ℕ} mostWords 0
 
 slice-aggregate-rehearse : tie.Need-slice-aggregate-rehearse
 slice-aggregate-rehearse c = search needs
