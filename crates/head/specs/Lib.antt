@@ -1,5 +1,6 @@
 pub mod Limits
 pub mod State
+pub mod Busy
 pub mod Range
 pub mod Grid
 pub mod Flags

@@ -15,12 +15,14 @@ use Rattle.plan.specs.declared.order.Order.{Order}
 use Rattle.plan.proofs.Accepted.{accepted-fit, accepted-few}
 use Rattle.plan.proofs.Logging.{log-few}
 use Rattle.schedule.specs.Schedule.{Timed, Schedule, scheduleFrom, Rising}
-use Rattle.schedule.specs.Translate.{fit, scheduleOf, answerOfPlan, translateOf, filled, tickList, wordList}
+use Rattle.schedule.specs.Translate.{fit, mostWords, scheduleOf, answerOfPlan, translateOf, filled, tickList, wordList}
 use Rattle.schedule.specs.declared.Translated.the-variants.{Done, Short}
-use Rattle.schedule.proofs.Plans.{plan-earliest, plan-rising, plan-count, plan-end}
+use Rattle.schedule.proofs.Accepted.{accepted-done}
+use Rattle.schedule.proofs.Plans.{plan-rising, plan-count, plan-end}
 use Rattle.run.specs.Run.{momentsOf, logOf}
 use Rattle.run.specs.Claim.{paired, Demands}
 use Rattle.run.proofs.Whole.{run-whole}
+use Rattle.run.proofs.Timing.{run-timed}
 
 -- the ticks and the words of a list make the list
 pub paired-back : (l : List Timed) → paired (map (λ (x : Timed). x .tick) l) (map (λ (x : Timed). x .word) l) ≡ l
@@ -54,11 +56,10 @@ module _ (s : Head) (bs : List ℕ) (os : List Order) (h : fit s ≡ true) (e : 
         accepted = e;
         few = few;
         fits = h;
-        scheduled = is;
+        earliest = rw is (run-timed s os h all);
         counted = sym long;
         most = rw (long, is) (plan-count s h os all few);
-        latest = rw is (plan-end s h os all few);
-        earliest = plan-earliest s h os all;
+        ends = rw is (plan-end s h os all few);
         run = rw is (run-whole s os h all);
       }
 
@@ -128,3 +129,27 @@ module _ (s : Head) (bs W T W' T' : List ℕ) (n e : ℕ)
   translated-rising =
       let os = ordersIn (planOf bs) in
       rw (translated-list, done .end, translated-schedule) (plan-rising s translated-fit os (accepted-fit bs os (done .accepted)))
+
+-- Any accepted plan, a head that is fit and buffers of at least 256 places: `translate` answers Done, and demands 2 and 3 hold of what it
+-- leaves in the buffers
+module _ (s : Head) (bs W T W' T' : List ℕ) (os : List Order)
+    (fits : fit s ≡ true)
+    (accepted : planOf bs ≡ orders os)
+    (roomW : mostWords ≤ length W)
+    (roomT : mostWords ≤ length T)
+    (words : W' ≡ filled (translateOf s bs (length W) (length T)) (wordList (scheduleOf s (planOf bs))) W)
+    (ticks : T' ≡ filled (translateOf s bs (length W) (length T)) (tickList (scheduleOf s (planOf bs))) T) where
+  abbrev n : ℕ
+  n = length (scheduleFrom s 0 (itemsOfAll os) .list)
+
+  abbrev end : ℕ
+  end = scheduleFrom s 0 (itemsOfAll os) .end
+
+  pub accepted-answer : translateOf s bs (length W) (length T) ≡ Done n end
+  accepted-answer = accepted-done s bs os fits accepted (length W) (length T) roomW roomT
+
+  pub accepted-demands : Demands s bs os (paired (take n T') (take n W')) n end
+  accepted-demands =
+      let is : ordersIn (planOf bs) ≡ os = ap ordersIn accepted in
+      rw is at
+      (translated-demands s bs W T W' T' n end (sym accepted-answer) (rw accepted-answer at words) (rw accepted-answer at ticks))

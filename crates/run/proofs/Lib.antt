@@ -2,6 +2,7 @@ pub mod Segments
 pub mod Meaning
 pub mod Quiet
 pub mod Whole
+pub mod Timing
 pub mod Accepted
 pub mod NextWord
 pub mod Rehearsing

@@ -1,7 +1,7 @@
 -- Moments without a word add nothing to what a run does, and while an acquisition lasts nothing moves and no setting changes.
 -- Assumes nothing.
-use mathlib.Core.Path.{_≡_, refl}
-use mathlib.Core.Bool.{true}
+use mathlib.Core.Path.{_≡_, refl, sym, _∙_}
+use mathlib.Core.Bool.{true, false, false≢true}
 use mathlib.Core.List.{List, [], _∷_, _++_}
 use mathlib.Core.Option.{Option, none, some}
 use Prim.Native.Nat.{ℕ, zero, suc, _+_}
@@ -11,6 +11,7 @@ use borrow.Author.Tests.{eqb-true}
 use lib.Dec.{eqb}
 use lib.ListN.{length, replicate, length-append, length-replicate}
 use Rattle.words.proofs.Tests.{and-left, and-right}
+use Rattle.head.specs.Busy.{isBusy}
 use Rattle.head.specs.Range.{inRange}
 use Rattle.head.specs.Tick.{tickOf, ticksOf}
 use Rattle.head.specs.declared.state.Settings.{Settings}
@@ -20,7 +21,7 @@ use Rattle.head.proofs.Ticks.{ticks-settings}
 use Rattle.schedule.specs.Earliest.{atRest}
 use Rattle.schedule.specs.Schedule.{Timed}
 use Rattle.schedule.proofs.Ready.{ticks-motion}
-use Rattle.run.specs.Run.{Moment, momentLog, logOf, timesOf, momentsOf, headAfter}
+use Rattle.run.specs.Run.{Moment, answered, momentLog, logOf, timesOf, momentsOf, headAfter}
 use Rattle.run.specs.Claim.{givenIn, AllObeyed, Resting, Held, StartsHeld}
 use Rattle.run.proofs.Segments.{quiet}
 
@@ -81,13 +82,13 @@ rest-ticks r n s h p =
 
 module _ (r : Settings) (ms : List Moment) (last : Head) (then : Held r ms last) where
   pub quiet-held : (n : ℕ) (s : Head) → inRange s ≡ true → Resting r s → Held r (quiet n s ++ ms) last
-  unfolding quiet ticksOf
+  unfolding quiet ticksOf answered
   quiet-held zero s h p = then
-  quiet-held (suc n) s h p = (p, λ busy. quiet-held n (tickOf s .head) (tick-keeps s h) (rest-ticks r 1 s h p))
+  quiet-held (suc n) s h p = (p, λ busy. (p, quiet-held n (tickOf s .head) (tick-keeps s h) (rest-ticks r 1 s h p)))
 
 -- an idle head need be held no longer
-pub held-idle : (r : Settings) (n t : ℕ) (l : List Timed) (s : Head) → s .work .busy ≡ 0 → Resting r s
+pub held-idle : (r : Settings) (n t : ℕ) (l : List Timed) (s : Head) → isBusy s ≡ false → Resting r s
     → Held r (momentsOf n t l s) (headAfter n t l s)
 unfolding momentsOf headAfter
 held-idle r zero t l s idle p = p
-held-idle r (suc n) t l s idle p = (p, λ busy. absurd (busy idle))
+held-idle r (suc n) t l s idle p = (p, λ busy. absurd (false≢true (sym idle ∙ busy)))

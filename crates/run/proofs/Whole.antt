@@ -14,6 +14,7 @@ use Rattle.words.specs.Kinds as kind
 use Rattle.words.specs.Kinds.{allowed}
 use Rattle.words.specs.Codec.{wordOf}
 use Rattle.words.proofs.Tests.{and-right}
+use Rattle.head.specs.Busy.{isBusy, busyTicks}
 use Rattle.head.specs.Range.{inRange}
 use Rattle.head.specs.Apply.{after, actOf}
 use Rattle.head.specs.Word.{outOfTurn, answerOf}
@@ -30,7 +31,7 @@ use Rattle.schedule.proofs.InTurn.{Step, word, wait, InTurn, empty, given, paus
 use Rattle.plan.proofs.Accepted.{AllFit}
 use Rattle.schedule.proofs.Ready.{Idle, idle-ticks, readied-idle, readied-ready, readied-taken, told-head, sent-idle}
 use Rattle.schedule.proofs.Plans.{fit-idle, span-bounds}
-use Rattle.run.specs.Run.{wordAt, Moment, momentsOf, headAfter, entryOf, entriesOf, momentLog, logOf}
+use Rattle.run.specs.Run.{wordAt, Moment, answered, momentsOf, headAfter, entryOf, entriesOf, momentLog, logOf}
 use Rattle.run.specs.Claim.{givenIn, Obeyed, AllObeyed, Resting, Held, StartsHeld, WholeRun}
 use Rattle.run.proofs.Segments.{Silent, moments-add, head-add, quiet, quiet-moments, quiet-head, none-before, ends-later, word-moments, word-head}
 use Rattle.run.proofs.Meaning.{Lasting, lastingOf, lastingAfter, lasting-after, lasting-ticks, appliedTo, loggedFrom, plan-meaning}
@@ -43,6 +44,7 @@ pub record Done (ms : List Moment) (last : Head) (x : Lasting) (st : List Step) 
   pub given : givenIn ms ≡ ws
   pub obeyed : AllObeyed ms
   pub held : StartsHeld ms last
+  pub idle : isBusy last ≡ false
 
 done-quiet : (n : ℕ) (s : Head) (ms : List Moment) (last : Head) (x : Lasting) (st : List Step) (ws : List ℕ) → Done ms last x st ws
     → Done (quiet n s ++ ms) last x st ws
@@ -53,11 +55,17 @@ done-quiet n s ms last x st ws d =
       given = quiet-given ms n s ∙ d .given;
       obeyed = quiet-obeyed ms n s (d .obeyed);
       held = quiet-starts ms last n s (d .held);
+      idle = d .idle;
     }
 
-done-none : (t : ℕ) (s : Head) → Done (momentsOf 0 t [] s) (headAfter 0 t [] s) (lastingOf s) [] []
+-- a head that counts no busy tick is not busy
+not-busy : (s : Head) → s .work .busy ≡ 0 → isBusy s ≡ false
+unfolding isBusy busyTicks
+not-busy s z = rw z
+
+done-none : (t : ℕ) (s : Head) → isBusy s ≡ false → Done (momentsOf 0 t [] s) (headAfter 0 t [] s) (lastingOf s) [] []
 unfolding momentsOf headAfter appliedTo loggedFrom logOf givenIn
-done-none t s = record { lasting = refl; log = refl; given = refl; obeyed = tt; held = tt }
+done-none t s idle = record { lasting = refl; log = refl; given = refl; obeyed = tt; held = tt; idle = idle }
 
 done-paused : (n m t : ℕ) (l : List Timed) (s : Head) (st : List Step) (ws : List ℕ) → Silent l n t → inRange s ≡ true
     → Done (momentsOf m (t + n) l (ticksOf n s)) (headAfter m (t + n) l (ticksOf n s)) (lastingOf (ticksOf n s)) st ws
@@ -74,6 +82,7 @@ done-paused n m t l s st ws silent h d =
       given = quiet-given ms n s ∙ later .given;
       obeyed = quiet-obeyed ms n s (later .obeyed);
       held = quiet-starts ms last n s (later .held);
+      idle = later .idle;
     })
 
 -- START sets no register and starts no motion
@@ -164,12 +173,12 @@ module _ (k b c : ℕ) (fine : allowed k b ≡ true) (turn : outOfTurn c k ≡ f
       → Done (momentsOf n u xs (sent s w)) (headAfter n u xs (sent s w)) (lastingOf (sent s w)) st ws
       → Done (quiet d s ++ (moment ∷ (quiet q (tickOf told .head) ++ momentsOf n u xs (sent s w)))) (headAfter n u xs (sent s w)) (lastingOf s)
       (word k b ∷ st) (w ∷ ws)
-  unfolding logOf givenIn appliedTo
+  unfolding logOf givenIn appliedTo answered
   done-word d q n u xs st ws h =
       let ms = momentsOf n u xs (sent s w) in
       let last = headAfter n u xs (sent s w) in
       let first = tickOf told .head in
-      let idle = sent-idle k b c fine turn s i .idle in
+      let idle = not-busy (sent s w) (sent-idle k b c fine turn s i .idle) in
       done-quiet d s (moment ∷ (quiet q first ++ ms)) last (lastingOf s) (word k b ∷ st) (w ∷ ws)
       (record {
         lasting = rw (← lasting-word) (h .lasting);
@@ -179,9 +188,10 @@ module _ (k b c : ℕ) (fine : allowed k b ≡ true) (turn : outOfTurn c k ≡ f
         held = (
           λ e.
               let same : w ≡ startWord = cc in
-              (rest-first same, held-word same q ms last (held-idle (t .settings) n u xs (sent s w) idle (rest-sent same))),
+              (rest-first same, rest-told same, held-word same q ms last (held-idle (t .settings) n u xs (sent s w) idle (rest-sent same))),
           quiet-starts ms last q first (h .held),
         );
+        idle = h .idle;
       })
 
   -- in the run, from the clock u on
@@ -203,7 +213,7 @@ module _ (k b c : ℕ) (fine : allowed k b ≡ true) (turn : outOfTurn c k ≡ f
     unfolding sent readied
     run-moments = rw one-less at (word-moments u (delayOf s w) q w xs s later-still n)
 
-    run-head : headAfter (delayOf s w + (spanOf t w + n)) u l s ≡ headAfter n (u + delayOf s w + spanOf t w) xs (sent s w)
+    pub run-head : headAfter (delayOf s w + (spanOf t w + n)) u l s ≡ headAfter n (u + delayOf s w + spanOf t w) xs (sent s w)
     unfolding sent readied
     run-head = rw one-less at (word-head u (delayOf s w) q w xs s later-still n)
 
@@ -228,7 +238,7 @@ pub run-done : {c : ℕ} {is : List Item} {st : List Step} → InTurn c is st �
     st
     (wordsIn (scheduleFrom s t is .list))
 unfolding scheduleFrom
-run-done empty s i t = rw (sub-self t) (done-none t s)
+run-done empty s i t = rw (sub-self t) (done-none t s (not-busy s (i .idle)))
 run-done {c} (given {is = is} {ms = st} k b fine turn r) s i t =
     let w = wordOf k b in
     let u = t + delayOf s w + spanOf (readied s w) w in
@@ -259,6 +269,7 @@ run-whole s os h all =
       settings = ap (λ (x : Lasting). x .settings) (d .lasting) ∙ meaning .holds .settings (lastingOf s);
       log = d .log ∙ meaning .holds .log (lastingOf s);
       held = d .held;
+      idle = d .idle;
       obeyed = d .obeyed;
       given = d .given;
     }

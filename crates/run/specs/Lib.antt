@@ -1,4 +1,5 @@
 pub mod Run
+pub mod Earliest
 pub mod Claim
 pub mod Rehearse
 pub mod Compare

@@ -2,7 +2,6 @@
 -- Assumes nothing.
 use mathlib.Core.Path.{_≡_, refl, sym, _∙_}
 use mathlib.Core.Bool.{Bool, true, false, cond, not, _&&_, _||_, false≢true}
-use mathlib.Core.List.{List}
 use Prim.Native.Nat.{ℕ, zero, suc, _-_, _<_, _≤_, max}
 use native.Mathlib.Omega.{arith}
 use borrow.Author.Tests.{le-leb, le-ltb, ltb-false, not-true, eqb-true, eq-eqb}
@@ -29,11 +28,10 @@ use Rattle.head.proofs.Bounds.{bounds}
 use Rattle.head.proofs.Answers.{taken}
 use Rattle.head.proofs.Keep.{word-keeps, ticks-keep}
 use Rattle.head.proofs.Ticks.{ticks-elapsed, ticks-begun}
-use Rattle.plan.specs.Words.{Item}
 use Rattle.schedule.specs.Earliest.{atRest, isTaken, ready, delayWithin, delayOf}
-use Rattle.schedule.specs.Schedule.{readied, spanOf, sent, Earliest}
+use Rattle.schedule.specs.Schedule.{readied, spanOf, sent}
 use Rattle.schedule.specs.Clock.{waitOf}
-use Rattle.schedule.proofs.InTurn.{Step, InTurn, empty, given, paused, word-decoded, is-start, is-hk, countAfter}
+use Rattle.schedule.proofs.InTurn.{word-decoded, is-start, is-hk, countAfter}
 
 -- a head in range and idle, with so many words of a mirror set begun
 pub record Idle (s : Head) (c : ℕ) : Type 0 where
@@ -250,13 +248,3 @@ module _ (k b c : ℕ) (fine : allowed k b ≡ true) (turn : outOfTurn c k ≡ f
           idle = ticks-busy n (after t k b) ranged (busy-span t (readied-idle s i .idle));
           count = rw (ticks-begun n (after t k b) ranged) (count-after t (readied-idle s i .count));
         })
-
--- Demand 2: every word of such items goes at the earliest tick
-pub earliest : {c : ℕ} {is : List Item} {ms : List Step} → InTurn c is ms → (s : Head) → Idle s c → Earliest s is
-earliest empty s i = tt
-earliest {c} (given k b fine turn r) s i = (
-  readied-ready k b c fine turn s i,
-  λ n l. not-before k b c fine turn s i n (rw (delay-wait k b c fine turn s i) at l),
-  earliest r (sent s (wordOf k b)) (sent-idle k b c fine turn s i),
-)
-earliest {c} (paused n r) s i = earliest r (ticksOf n s) (idle-ticks n s c i)

@@ -1,8 +1,7 @@
 -- Document 01, "Plans": the words of a plan with their ticks, and its end.
 -- Assumes nothing.
-use Prim.Native.Nat.{ℕ, _+_, _<_, _≤_}
-use mathlib.Core.Path.{_≡_}
-use mathlib.Core.Bool.{true, false, cond}
+use Prim.Native.Nat.{ℕ, _+_, _≤_}
+use mathlib.Core.Bool.{cond}
 use mathlib.Core.List.{List, [], _∷_}
 use lib.Dec.{eqb}
 use Rattle.head.specs.Limits.{lengthOf, hkTicks}
@@ -10,7 +9,7 @@ use Rattle.head.specs.Word.{answerOf}
 use Rattle.head.specs.Tick.{ticksOf}
 use Rattle.head.specs.declared.state.Head.{Head}
 use Rattle.plan.specs.Words.{Item, send, pause}
-use Rattle.schedule.specs.Earliest.{startWord, hkWord, ready, delayOf}
+use Rattle.schedule.specs.Earliest.{startWord, hkWord, delayOf}
 
 pub record Timed : Type 0 where
   pub tick : ℕ
@@ -41,15 +40,6 @@ scheduleFrom s t [] = record { list = []; end = t }
 scheduleFrom s t (send w ∷ is) =
     following (t + delayOf s w) w (scheduleFrom (sent s w) (t + delayOf s w + spanOf (readied s w) w) is)
 scheduleFrom s t (pause n ∷ is) = scheduleFrom (ticksOf n s) (t + n) is
-
--- Demand 2: every word goes at the earliest tick. At the word's tick it may go, and at no tick from the clock up to it.
-abbrev pub Earliest : Head → List Item → Type 0
-Earliest s [] = Unit {0}
-Earliest s (send w ∷ is) =
-    (ready (readied s w) w ≡ true)
-    × ((n : ℕ) → n < delayOf s w → ready (ticksOf n s) w ≡ false)
-    × Earliest (sent s w) is
-Earliest s (pause n ∷ is) = Earliest (ticksOf n s) is
 
 -- The ticks of a list from t on rise strictly, and the last is before the end.
 abbrev pub Rising : ℕ → List Timed → ℕ → Type 0
