@@ -6,11 +6,18 @@ use Prim.Native.Nat.{ℕ, zero, suc, _+_, _-_, _<_, _≤_}
 use native.Mathlib.Omega.{arith}
 use borrow.Author.Tests.{eq-eqb, ne-eqb, lt-ltb, le-ltb}
 use lib.ListN.{length}
-use Rattle.plan.specs.Stored.{Plan, orders, refused, byteAt, pairAt, orderAt, faultAt, before, headerFault, ordersFrom, mostOrders, planOf}
-use Rattle.plan.specs.Judged.{judgedOf}
+use Rattle.plan.specs.Stored.{Plan, orders, refused, byteAt, pairAt, orderAt, faultAt, before, headerFault, ordersFrom, mostOrders, planOf, planNumber, planPlace}
+use Rattle.plan.specs.Judged.{judgedOf, judgedNumber, judgedPlace}
 use Rattle.plan.specs.declared.order.Order.{Order}
 use Rattle.plan.specs.declared.stored.Judged.{Judged}
 use Rattle.plan.specs.declared.stored.Judged.the-variants.{Accepted, Refused}
+
+-- the judge's answer for a plan tells the refusal's number and place
+pub judges : {r : Judged} (p : Plan) → r ≡ judgedOf p
+    → (r ≡ judgedOf p) × ((judgedNumber r ≡ planNumber p) × (judgedPlace r ≡ planPlace p))
+unfolding judgedOf
+judges (orders os) is = rw is (refl, (refl, refl))
+judges (refused n q) is = rw is (refl, (refl, refl))
 
 -- the orders from a place on, by what stands there
 module _ (bs : List ℕ) (at : ℕ) where

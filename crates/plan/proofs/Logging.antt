@@ -11,11 +11,11 @@ use lib.Seq.{sets, length-sets}
 use Rattle.head.specs.declared.state.Settings.{Settings}
 use Rattle.plan.specs.Codes as code
 use Rattle.plan.specs.Codes.{is, fit}
-use Rattle.plan.specs.Stored.{Plan, orders, refused, byteAt, orderAt, planOf, ordersIn}
+use Rattle.plan.specs.Stored.{Plan, orders, refused, byteAt, orderAt, planOf, planNumber, planPlace, ordersIn}
 use Rattle.plan.specs.Judged.{judgedOf, checkedAt}
 use Rattle.plan.specs.Reading.{exposure, request, coverMove, settingsBy, entriesBy, settingsRead, logRead}
 use Rattle.plan.specs.Rows.{rowsOf, endRow, recordOf}
-use Rattle.plan.specs.Read.{readOf, readRecord, atFront}
+use Rattle.plan.specs.Read.{readOf, readNumber, readPlace, readRecord, atFront}
 use Rattle.plan.specs.declared.order.Order.{Order}
 use Rattle.plan.specs.declared.stored.Checked.{Checked}
 use Rattle.plan.specs.declared.stored.Judged.{Judged}
@@ -155,7 +155,11 @@ read-room r bs = go (planOf bs) refl
 
 -- the ways through `read_plan`
 abbrev Answers : Settings → List ℕ → List ℕ → Read → List ℕ → Type 0
-Answers r bs rows answer rows' = (answer ≡ readOf r (planOf bs)) × (rows' ≡ atFront (readRecord r (planOf bs)) rows)
+Answers r bs rows answer rows' =
+    (answer ≡ readOf r (planOf bs))
+    × ((readNumber answer ≡ planNumber (planOf bs))
+    × ((readPlace answer ≡ planPlace (planOf bs))
+    × (rows' ≡ atFront (readRecord r (planOf bs)) rows)))
 
 module _ (r : Settings) (bs rows : List ℕ) where
   pub way-read : {n acts : ℕ} {rows' : List ℕ} → judgedOf (planOf bs) ≡ Judged.Accepted n → length rows ≡ 1365
@@ -165,11 +169,11 @@ module _ (r : Settings) (bs rows : List ℕ) where
   way-read {n} is room count laid =
       let os = ordersIn (planOf bs) in
       let read = judged-accepted (planOf bs) n is in
-      let most : 21 * length (logRead r os) + 21 ≤ length rows = omega (arith, log-room r bs os read) in (
-        ap Accepted count ∙ ap (readOf r) (sym read),
-        laid ∙ record-front (logRead r os) (settingsRead r os) rows most ∙ ap (λ (p : Plan). atFront (readRecord r p) rows) (sym read),
-      )
+      let most : 21 * length (logRead r os) + 21 ≤ length rows = omega (arith, log-room r bs os read) in
+      let answer = ap Accepted count ∙ ap (readOf r) (sym read) in
+      let front = laid ∙ record-front (logRead r os) (settingsRead r os) rows most ∙ ap (λ (p : Plan). atFront (readRecord r p) rows) (sym read) in
+      (answer, (ap planNumber (sym read), (ap planPlace (sym read), front)))
 
   pub way-refused : {n p : ℕ} → judgedOf (planOf bs) ≡ Judged.Refused n p → Answers r bs rows (Refused n p) rows
   unfolding readOf readRecord atFront
-  way-refused {n} {p} is = rw (judged-refused (planOf bs) n p is) (refl, refl)
+  way-refused {n} {p} is = rw (judged-refused (planOf bs) n p is) (refl, (refl, (refl, refl)))

@@ -24,10 +24,10 @@ judgedOf (orders os) = Accepted (length os)
 judgedOf (refused n p) = Refused n p
 
 -- The refusal's number of document 01, 0 for none, and its byte place.
-unfoldable pub judgedNumber : Judged → ℕ
+abbrev pub judgedNumber : Judged → ℕ
 judgedNumber (Accepted n) = 0
 judgedNumber (Refused n p) = n
 
-unfoldable pub judgedPlace : Judged → ℕ
+abbrev pub judgedPlace : Judged → ℕ
 judgedPlace (Accepted n) = 0
 judgedPlace (Refused n p) = p

@@ -25,10 +25,10 @@ unfoldable pub atFront : List ℕ → List ℕ → List ℕ
 atFront values old = values ++ drop (length values) old
 
 -- The refusal's number of document 01, 0 for none, and its byte place.
-unfoldable pub readNumber : Read → ℕ
+abbrev pub readNumber : Read → ℕ
 readNumber (Accepted n) = 0
 readNumber (Refused n p) = n
 
-unfoldable pub readPlace : Read → ℕ
+abbrev pub readPlace : Read → ℕ
 readPlace (Accepted n) = 0
 readPlace (Refused n p) = p

@@ -20,6 +20,15 @@ abbrev pub ordersIn : Plan → List Order
 ordersIn (orders os) = os
 ordersIn (refused n p) = []
 
+-- The refusal's number of document 01, 0 for none, and its byte place.
+abbrev pub planNumber : Plan → ℕ
+planNumber (orders os) = 0
+planNumber (refused n p) = n
+
+abbrev pub planPlace : Plan → ℕ
+planPlace (orders os) = 0
+planPlace (refused n p) = p
+
 -- Big-endian throughout.
 abbrev pub pairAt : List ℕ → ℕ → ℕ
 pairAt bs i = byteAt bs i * 256 + byteAt bs (i + 1)

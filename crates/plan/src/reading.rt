@@ -12,6 +12,7 @@ use crate::order::Order;
 use crate::settings::settings_by;
 use crate::stored::HEADER;
 use crate::stored::Judged;
+use crate::stored::NO_FAULT;
 use crate::stored::byte_at;
 use crate::stored::checked_at;
 use crate::stored::judge;
@@ -20,10 +21,10 @@ ghost use mathlib.Core.Path.{_≡_};
 ghost use Prim.Native.Nat.{_+_, _*_, _<_};
 ghost use lib.ListN.{length};
 ghost use lib.Seq.{sets};
-ghost use Rattle.plan.specs.Stored.{orders, planOf, ordersIn};
+ghost use Rattle.plan.specs.Stored.{orders, planOf, ordersIn, planNumber, planPlace};
 ghost use Rattle.plan.specs.Reading.{entriesBy, settingsRead, logRead};
 ghost use Rattle.plan.specs.Rows.{rowsOf, recordOf};
-ghost use Rattle.plan.specs.Read.{readOf, readRecord, atFront};
+ghost use Rattle.plan.specs.Read.{readOf, readNumber, readPlace, readRecord, atFront};
 
 // What reading a plan answers.
 pub enum Read {
@@ -31,6 +32,28 @@ pub enum Read {
     Accepted { acts: usize },
     // The number of document 01's refusal table, and the byte place.
     Refused { number: u8, place: usize },
+}
+
+impl Read {
+    // The refusal's number, 0 for none.
+    pub fn number(self) -> u8
+        ensures { λ r. ⌜ r ≡ readNumber self ⌝ }
+    {
+        match self {
+            Read::Accepted { acts: _ } => NO_FAULT,
+            Read::Refused { number, place: _ } => number,
+        }
+    }
+
+    // The refusal's byte place, 0 for none.
+    pub fn place(self) -> usize
+        ensures { λ r. ⌜ r ≡ readPlace self ⌝ }
+    {
+        match self {
+            Read::Accepted { acts: _ } => 0,
+            Read::Refused { number: _, place } => place,
+        }
+    }
 }
 
 // The act of an order, if it has one, as the next row; answers the number of acts then.
@@ -80,6 +103,8 @@ fn read_orders(rows: &mut [u16], plan: &[u8], count: usize, start: Settings) -> 
 // Reads a plan from given settings into the first rows; a refusal writes nothing.
 pub fn read_plan(settings: Settings, plan: &[u8], rows: &mut [u16; 1365]) -> Read
     ensures { λ r. ⌜ r ≡ readOf settings (planOf (now (plan .entry))) ⌝ }
+    ensures { λ r. ⌜ readNumber r ≡ planNumber (planOf (now (plan .entry))) ⌝ }
+    ensures { λ r. ⌜ readPlace r ≡ planPlace (planOf (now (plan .entry))) ⌝ }
     ensures { λ r. ⌜ now (rows .exit) ≡ atFront (readRecord settings (planOf (now (plan .entry)))) (now (rows .entry)) ⌝ }
 {
     let judged = judge(plan);

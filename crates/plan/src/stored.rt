@@ -8,8 +8,8 @@ ghost use mathlib.Core.Path.{_≡_};
 ghost use Prim.Native.Nat.{_+_, _*_, _≤_, _<_, _^_};
 ghost use lib.ListN.{length};
 ghost use Rattle.plan.specs.Codes.{countOf, widthOf};
-ghost use Rattle.plan.specs.Stored.{byteAt, pairAt, reach, valueAt, fieldsAt, faultAt, headerFault, ordersFrom, mostOrders, planOf};
-ghost use Rattle.plan.specs.Judged.{faulty, checkedAt, judgedOf};
+ghost use Rattle.plan.specs.Stored.{byteAt, pairAt, reach, valueAt, fieldsAt, faultAt, headerFault, ordersFrom, mostOrders, planOf, planNumber, planPlace};
+ghost use Rattle.plan.specs.Judged.{faulty, checkedAt, judgedOf, judgedNumber, judgedPlace};
 
 // The version of the stored form.
 pub const VERSION: u8 = 1;
@@ -19,7 +19,9 @@ pub const HEADER: usize = 3;
 
 pub const MOST_ORDERS: usize = 64;
 
-// The numbers of document 01's refusal table.
+// The numbers of document 01's refusal table, and 0 for none of them.
+pub const NO_FAULT: u8 = 0;
+
 pub const TOO_SHORT: u8 = 2;
 
 pub const OTHER_VERSION: u8 = 3;
@@ -42,6 +44,28 @@ pub enum Judged {
     Accepted { count: usize },
     // The number of document 01's refusal table, and the byte place.
     Refused { number: u8, place: usize },
+}
+
+impl Judged {
+    // The refusal's number, 0 for none.
+    pub fn number(self) -> u8
+        ensures { λ r. ⌜ r ≡ judgedNumber self ⌝ }
+    {
+        match self {
+            Judged::Accepted { count: _ } => NO_FAULT,
+            Judged::Refused { number, place: _ } => number,
+        }
+    }
+
+    // The refusal's byte place, 0 for none.
+    pub fn place(self) -> usize
+        ensures { λ r. ⌜ r ≡ judgedPlace self ⌝ }
+    {
+        match self {
+            Judged::Accepted { count: _ } => 0,
+            Judged::Refused { number: _, place } => place,
+        }
+    }
 }
 
 // The byte at a place; 0 past the end.
@@ -159,7 +183,10 @@ pub fn checked_at(plan: &[u8], at: usize) -> Checked
     }
     let order = fields_at(plan, at + 2, code);
     if order.fields_fit() {
-        Checked { fault: 0, order }
+        Checked {
+            fault: NO_FAULT,
+            order,
+        }
     } else {
         faulty(FIELD_RANGE)
     }
@@ -186,7 +213,7 @@ fn judge_orders(plan: &[u8]) -> Judged
             };
         }
         let fault = fault_at(plan, at);
-        if fault != 0 {
+        if fault != NO_FAULT {
             return Judged::Refused {
                 number: fault,
                 place: at,
@@ -211,15 +238,17 @@ pub fn header_fault(plan: &[u8]) -> u8
     if plan.len() != HEADER + pair_at(plan, 1) as usize {
         return PLAN_LENGTH;
     }
-    0
+    NO_FAULT
 }
 
 // Whether a plan is accepted.
 pub fn judge(plan: &[u8]) -> Judged
     ensures { λ r. ⌜ r ≡ judgedOf (planOf (now (plan .entry))) ⌝ }
+    ensures { λ r. ⌜ judgedNumber r ≡ planNumber (planOf (now (plan .entry))) ⌝ }
+    ensures { λ r. ⌜ judgedPlace r ≡ planPlace (planOf (now (plan .entry))) ⌝ }
 {
     let fault = header_fault(plan);
-    if fault != 0 {
+    if fault != NO_FAULT {
         return Judged::Refused {
             number: fault,
             place: 0,

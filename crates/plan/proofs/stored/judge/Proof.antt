@@ -1,7 +1,7 @@
 -- `plan::stored::judge` meets its contract.
 -- Assumes nothing.
 use borrow.Author.Needs.{needs}
-use Rattle.plan.proofs.Judging.{judged-header, judged-orders}
+use Rattle.plan.proofs.Judging.{judges, judged-header, judged-orders}
 use Rattle.plan.proofs.stored.judge.Statement.{statement}
 use Rattle.plan.proofs.stored.judge.Tie as tie
 
@@ -9,13 +9,13 @@ header-fault-requires : tie.Need-header-fault-requires
 header-fault-requires c κs = search needs
 
 returns : tie.Need-returns
-returns c = search (needs, judged-header)
+returns c = judges _ (search (needs, judged-header))
 
 judge-orders-requires : tie.Need-judge-orders-requires
 judge-orders-requires c κs = search needs
 
 returns-2 : tie.Need-returns-2
-returns-2 c = search (needs, judged-orders)
+returns-2 c = judges _ (search (needs, judged-orders))
 
 pub judge-spec : {M : Type 1} → statement M
 judge-spec = tie.close (tie.spec header-fault-requires returns judge-orders-requires returns-2)
