@@ -77,7 +77,7 @@ module _ (bs : List ℕ) (at n : ℕ) (os : List Order) (is : ordersFrom n bs at
   orders-done h = let none = from-end bs at n h in cc
 
   module _ (more : at < length bs) where
-    pub orders-room : 0 < n
+    orders-room : 0 < n
     orders-room = go n refl
       where
         go : (m : ℕ) → n ≡ m → 0 < n
@@ -93,7 +93,7 @@ module _ (bs : List ℕ) (at n : ℕ) (os : List Order) (is : ordersFrom n bs at
         go (no e) (suc m) h = let fault = from-fault bs at more m e in differ (cc)
 
     module _ (m : ℕ) (step : n ≡ suc m) where
-      pub orders-next : before (orderAt bs at) (ordersFrom m bs (at + 1 + byteAt bs at)) ≡ orders os
+      orders-next : before (orderAt bs at) (ordersFrom m bs (at + 1 + byteAt bs at)) ≡ orders os
       orders-next = sym (from-order bs at more m orders-sound) ∙ (rw step at is)
 
       pub orders-first : os ≡ orderAt bs at ∷ drop 1 os

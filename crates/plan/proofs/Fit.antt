@@ -90,10 +90,6 @@ module _ (o : Order) where
             (past 14 (o .code) apart (lt-of-le-ne (omega arith) ne))
         go (no k) (no ne) = rw (List·getD-eq-default rows (code.b []) {n = o .code} (omega arith), ne-eqb (o .code) window (λ e. omega arith), ne-eqb (o .code) mirror (λ e. omega arith))
 
-pub fit-both : (o : Order) (k f : Bool) → k ≡ known (o .code) → f ≡ fieldsFit o → (k && f) ≡ fit o
-unfolding fit
-fit-both o k f is-known is-fit = rw (is-known, is-fit)
-
 -- what holds of each of the codes holds of every known one
 module _ (P : ℕ → Type 0)
     (p1 : P 1) (p2 : P 2) (p3 : P 3) (p4 : P 4) (p5 : P 5) (p6 : P 6)

@@ -5,7 +5,6 @@ pub mod Judging
 pub mod OrderWords
 pub mod Sending
 pub mod Accepted
-pub mod Items
 pub mod Laid
 pub mod Registers
 pub mod Walking

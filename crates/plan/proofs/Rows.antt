@@ -23,7 +23,7 @@ unfolding placeOf
 place-none code h = rw (lt-leb code 17 h)
 
 -- of eighteen rows, the first of them empty, the one at a code's place is the code's
-pub place-at : {A : Type 0} (t : List A) (none : A) → length t ≡ 18 → getD t 0 none ≡ none
+place-at : {A : Type 0} (t : List A) (none : A) → length t ≡ 18 → getD t 0 none ≡ none
     → (code : ℕ) → getD t (placeOf code) none ≡ getD t code none
 place-at t none long first code = go (decLe code 17)
   where

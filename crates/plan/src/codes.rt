@@ -42,42 +42,42 @@ const COUNTS: u64 = 0o1_0_0_4_1_2_2_2_2_2_1_4_1_2_2_1_1_0;
 const WIDTHS: u64 = 0o2_1_1_1_1_2_1_1_1_1_1_2_1_2_2_2_2_1;
 
 // Codes are 1-17.
-pub fn is_known(code: u8) -> bool
+pub(crate) fn is_known(code: u8) -> bool
     ensures { λ r. ⌜ r ≡ known code ⌝ }
 {
     (VDETCOM <= code) & (code <= WAIT)
 }
 
 // The row of a code in the tables.
-pub fn place_of(code: u8) -> usize
+fn place_of(code: u8) -> usize
     ensures { λ r. ⌜ r ≡ placeOf code ⌝ }
 {
     if code <= WAIT { code as usize } else { 0 }
 }
 
 // The octal digit at a code's place.
-pub(crate) fn digit(digits: u64, code: u8) -> usize
+fn digit(digits: u64, code: u8) -> usize
     ensures { λ r. ⌜ r ≡ digitAt digits code ⌝ }
 {
     ((digits >> (3 * place_of(code))) % 8) as usize
 }
 
 // How many fields a code has; what is no code has none.
-pub fn count_of(code: u8) -> usize
+pub(crate) fn count_of(code: u8) -> usize
     ensures { λ r. ⌜ r ≡ countOf code ⌝ }
 {
     digit(COUNTS, code)
 }
 
 // The bytes of each field of a code.
-pub fn width_of(code: u8) -> usize
+pub(crate) fn width_of(code: u8) -> usize
     ensures { λ r. ⌜ r ≡ widthOf code ⌝ }
 {
     digit(WIDTHS, code)
 }
 
 // What the length byte of an order counts: the code and the fields.
-pub fn length_of(code: u8) -> usize
+pub(crate) fn length_of(code: u8) -> usize
     ensures { λ r. ⌜ r ≡ lengthOf code ⌝ }
 {
     let width = width_of(code);

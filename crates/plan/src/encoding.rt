@@ -70,7 +70,7 @@ const COVER: u16 = 0x1000;
 
 // The sine as the head's register holds it: the sign in bit 12 above the magnitude. Sine 0 is plus; a
 // negative sine is stored as 65536 less its magnitude.
-pub fn sine_register(sine: u16) -> u16
+pub(crate) fn sine_register(sine: u16) -> u16
     ensures { λ r. ⌜ r ≡ sineRegister sine ⌝ }
 {
     if sine < 32768 {

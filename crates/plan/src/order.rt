@@ -13,9 +13,8 @@ use crate::codes::VDETADJ;
 use crate::codes::VDETCOM;
 use crate::codes::WINDOW;
 use crate::codes::WINDOW_MODE;
-use crate::codes::is_known;
 ghost use mathlib.Core.Path.{_≡_};
-ghost use Rattle.plan.specs.Codes.{recoded, window, cover, mirror, fieldsFit, fit};
+ghost use Rattle.plan.specs.Codes.{recoded, window, cover, mirror, fieldsFit};
 
 // An order: its code, and its fields in the order in which they are stored; a field that the code has not is 0.
 pub struct Order {
@@ -65,7 +64,7 @@ impl Order {
     }
 
     // Every field is in range.
-    pub fn fields_fit(self) -> bool
+    pub(crate) fn fields_fit(self) -> bool
         ensures { λ r. ⌜ r ≡ fieldsFit self ⌝ }
     {
         let a = self.a;
@@ -90,14 +89,5 @@ impl Order {
             COVER => self.cover_fits(),
             _ => true,
         }
-    }
-
-    // The code is known and every field is in range.
-    pub fn fits(self) -> bool
-        ensures { λ r. ⌜ r ≡ fit self ⌝ }
-    {
-        let known = is_known(self.code);
-        let fields = self.fields_fit();
-        known & fields
     }
 }

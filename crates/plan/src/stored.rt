@@ -193,7 +193,7 @@ pub fn checked_at(plan: &[u8], at: usize) -> Checked
 }
 
 // What is wrong with the order at a place: a number of document 01's refusal table, 0 for nothing.
-pub fn fault_at(plan: &[u8], at: usize) -> u8
+fn fault_at(plan: &[u8], at: usize) -> u8
     ensures { λ r. ⌜ r ≡ faultAt (now (plan .entry)) at ⌝ }
 {
     checked_at(plan, at).fault
