@@ -19,35 +19,35 @@ module _ (o : Order) (f : fit o ≡ true) where
   unfolding known
   code-least = leb-true 1 (o .code) (and-left (leb 1 (o .code)) (leb (o .code) 17) (fit-known o f))
 
-  pub motor-most : o .code ≡ 13 → o .a ≤ 1
+  pub motor-most : o .code ≡ code.motor → o .a ≤ 1
   unfolding rows
   motor-most e = (rw e at (fit-bounds o (fit-fields o f))) .1
 
 -- a lamp, the shutter or the annealing
 Current : Order → Type 0
-Current o = fieldsFit o ≡ true → 8 ≤ o .code → o .code ≤ 11 → o .a + 2 * o .b ≤ 127
+Current o = fieldsFit o ≡ true → code.ccdLamp ≤ o .code → o .code ≤ code.annealing → o .a + 2 * o .b ≤ 127
 
-other : (o : Order) → (8 ≤ o .code → o .code ≤ 11 → ⊥) → Current o
+other : (o : Order) → (code.ccdLamp ≤ o .code → o .code ≤ code.annealing → ⊥) → Current o
 unfolding Current
 other o h = λ f low high. absurd (h low high)
 
-pub current-most : (o : Order) → fit o ≡ true → 8 ≤ o .code → o .code ≤ 11 → o .a + 2 * o .b ≤ 127
+pub current-most : (o : Order) → fit o ≡ true → code.ccdLamp ≤ o .code → o .code ≤ code.annealing → o .a + 2 * o .b ≤ 127
 unfolding Current rows
 current-most o f =
     by-order Current o
     (other _ (λ l h. omega arith)) (other _ (λ l h. omega arith)) (other _ (λ l h. omega arith)) (other _ (λ l h. omega arith))
     (other _ (λ l h. omega arith)) (other _ (λ l h. omega arith)) (other _ (λ l h. omega arith))
-    (λ f l h. let b = fit-bounds (recoded 8 o) f in omega arith)
-    (λ f l h. let b = fit-bounds (recoded 9 o) f in omega arith)
-    (λ f l h. let b = fit-bounds (recoded 10 o) f in omega arith)
-    (λ f l h. let b = fit-bounds (recoded 11 o) f in omega arith)
+    (λ f l h. let b = fit-bounds (recoded code.ccdLamp o) f in omega arith)
+    (λ f l h. let b = fit-bounds (recoded code.irLamp o) f in omega arith)
+    (λ f l h. let b = fit-bounds (recoded code.shutter o) f in omega arith)
+    (λ f l h. let b = fit-bounds (recoded code.annealing o) f in omega arith)
     (other _ (λ l h. omega arith)) (other _ (λ l h. omega arith)) (other _ (λ l h. omega arith))
     (other _ (λ l h. omega arith)) (other _ (λ l h. omega arith)) (other _ (λ l h. omega arith))
     (fit-known o f) (fit-fields o f)
 
 -- expose, housekeeping and wait set nothing
-module _ (o : Order) (h : 15 ≤ o .code) where
-  unset : (n : ℕ) → n ≤ 14 → is o n ≡ false
+module _ (o : Order) (h : code.expose ≤ o .code) where
+  unset : (n : ℕ) → n ≤ code.cover → is o n ≡ false
   unset n l = ne-eqb (o .code) n (omega arith)
 
   pub settings-same : (r : Settings) → r ≡ settingsBy r o

@@ -26,28 +26,51 @@ pub struct Order {
 }
 
 impl Order {
-    // X2 - X1 in a window order.
-    pub const WINDOW_WIDTH: u32 = 875;
-    // The greatest sine, and the least as two's complement.
-    pub const GREATEST_SINE: u16 = 4095;
-
-    pub const LEAST_SINE: u16 = 61441;
-    // Twelve bits.
+    // A field of one bit: on or off, a mode, a direction.
+    pub const MOST_BIT: u16 = 1;
+    // A voltage has twelve bits.
     pub const MOST_VOLTAGE: u16 = 4095;
-
-    pub const MOST_COSINE: u16 = 4095;
     // A delay or an exposure has ten bits.
     pub const MOST_TIME: u16 = 1023;
 
     pub const LEAST_CCD_DELAY: u16 = 5;
+    // The window's corners, and X2 - X1.
+    pub const MOST_X1: u16 = 148;
+
+    pub const ONLY_Y1: u16 = 0;
+
+    pub const LEAST_X2: u16 = 875;
+
+    pub const MOST_X2: u16 = 1023;
+
+    pub const ONLY_Y2: u16 = 511;
+
+    pub const WINDOW_WIDTH: u32 = 875;
+    // The currents of the lamps and the shutter, and the annealing's limit.
+    pub const MOST_CCD_LAMP: u16 = 3;
+
+    pub const MOST_IR_LAMP: u16 = 15;
+
+    pub const MOST_SHUTTER: u16 = 15;
+
+    pub const MOST_ANNEALING: u16 = 63;
+    // The greatest sine, and the least as two's complement; the greatest cosine.
+    pub const GREATEST_SINE: u16 = 4095;
+
+    pub const LEAST_SINE: u16 = 61441;
+
+    pub const MOST_COSINE: u16 = 4095;
+    // The cover's steps.
+    pub const MOST_STEPS: u16 = 81;
 
     // X1, Y1, X2 and Y2, each in its range, with X2 = X1 + 875.
     fn window_fits(self) -> bool
         ensures { λ r. ⌜ r ≡ fieldsFit (recoded window self) ⌝ }
     {
-        let first = (self.a <= 148) & (self.b <= 0);
-        let last = ((875 <= self.c) & (self.c <= 1023)) & ((511 <= self.d) & (self.d <= 511));
-        first & last & (self.c as u32 == self.a as u32 + Self::WINDOW_WIDTH)
+        let first = (self.a <= Self::MOST_X1) & (self.b <= Self::ONLY_Y1);
+        let x2 = (Self::LEAST_X2 <= self.c) & (self.c <= Self::MOST_X2);
+        let y2 = (Self::ONLY_Y2 <= self.d) & (self.d <= Self::ONLY_Y2);
+        first & (x2 & y2) & (self.c as u32 == self.a as u32 + Self::WINDOW_WIDTH)
     }
 
     fn mirror_fits(self) -> bool
@@ -60,7 +83,9 @@ impl Order {
     fn cover_fits(self) -> bool
         ensures { λ r. ⌜ r ≡ fieldsFit (recoded cover self) ⌝ }
     {
-        ((self.a <= 1) & (self.b <= 1)) & ((self.c <= 1) & (self.d <= 81))
+        let first = (self.a <= Self::MOST_BIT) & (self.b <= Self::MOST_BIT);
+        let last = (self.c <= Self::MOST_BIT) & (self.d <= Self::MOST_STEPS);
+        first & last
     }
 
     // Every field is in range.
@@ -77,15 +102,15 @@ impl Order {
             CCD_TIMES => {
                 (Self::LEAST_CCD_DELAY <= a) & (a <= Self::MOST_TIME) & (b <= Self::MOST_TIME)
             }
-            WINDOW_MODE => a <= 1,
+            WINDOW_MODE => a <= Self::MOST_BIT,
             WINDOW => self.window_fits(),
-            DETECTOR => a <= 1,
-            CCD_LAMP => (a <= 1) & (b <= 3),
-            IR_LAMP => (a <= 1) & (b <= 15),
-            SHUTTER => (a <= 1) & (b <= 15),
-            ANNEALING => (a <= 1) & (b <= 63),
+            DETECTOR => a <= Self::MOST_BIT,
+            CCD_LAMP => (a <= Self::MOST_BIT) & (b <= Self::MOST_CCD_LAMP),
+            IR_LAMP => (a <= Self::MOST_BIT) & (b <= Self::MOST_IR_LAMP),
+            SHUTTER => (a <= Self::MOST_BIT) & (b <= Self::MOST_SHUTTER),
+            ANNEALING => (a <= Self::MOST_BIT) & (b <= Self::MOST_ANNEALING),
             MIRROR => self.mirror_fits(),
-            MOTOR => a <= 1,
+            MOTOR => a <= Self::MOST_BIT,
             COVER => self.cover_fits(),
             _ => true,
         }

@@ -21,7 +21,7 @@ ghost use mathlib.Core.Path.{_≡_};
 ghost use Prim.Native.Nat.{_+_, _*_, _<_};
 ghost use lib.ListN.{length};
 ghost use lib.Seq.{sets};
-ghost use Rattle.plan.specs.Stored.{orders, planOf, ordersIn, planNumber, planPlace};
+ghost use Rattle.plan.specs.Stored.{orders, mostOrders, planOf, ordersIn, planNumber, planPlace};
 ghost use Rattle.plan.specs.Reading.{entriesBy, settingsRead, logRead};
 ghost use Rattle.plan.specs.Rows.{rowsOf, recordOf};
 ghost use Rattle.plan.specs.Read.{readOf, readNumber, readPlace, readRecord, atFront};
@@ -58,7 +58,7 @@ impl Read {
 
 // The act of an order, if it has one, as the next row; answers the number of acts then.
 fn log_order(rows: &mut [u16], acts: usize, settings: Settings, order: Order) -> usize
-    requires { ⌜ acts < 64 ⌝ }
+    requires { ⌜ acts < mostOrders ⌝ }
     ensures { λ r. ⌜ r ≡ acts + length (entriesBy settings order) ⌝ }
     ensures { λ r. ⌜ now (rows .exit) ≡ sets (now (rows .entry)) (21 * acts) (rowsOf (entriesBy settings order)) ⌝ }
 {

@@ -19,12 +19,12 @@ use head::state::Settings;
 ghost use mathlib.Core.Path.{_≡_};
 ghost use mathlib.Core.Bool.{true};
 ghost use Prim.Native.Nat.{_≤_};
-ghost use Rattle.plan.specs.Codes.{fit};
+ghost use Rattle.plan.specs.Codes.{vdetcom, ccdTimes, windowMode, detector, ccdLamp, annealing, mirror, fit};
 ghost use Rattle.plan.specs.Reading.{settingsBy};
 
 // The detector's voltages, and the times of the two channels.
 fn times_by(mut settings: Settings, order: Order) -> Settings
-    requires { ⌜ 1 ≤ order .code ⌝ ∗ ⌜ order .code ≤ 4 ⌝ }
+    requires { ⌜ vdetcom ≤ order .code ⌝ ∗ ⌜ order .code ≤ ccdTimes ⌝ }
     ensures { λ r. ⌜ r ≡ settingsBy settings order ⌝ }
 {
     let code = order.code;
@@ -54,7 +54,7 @@ fn times_by(mut settings: Settings, order: Order) -> Settings
 
 // The window mode, the CCD's window and the detector.
 fn window_by(mut settings: Settings, order: Order) -> Settings
-    requires { ⌜ 5 ≤ order .code ⌝ ∗ ⌜ order .code ≤ 7 ⌝ }
+    requires { ⌜ windowMode ≤ order .code ⌝ ∗ ⌜ order .code ≤ detector ⌝ }
     ensures { λ r. ⌜ r ≡ settingsBy settings order ⌝ }
 {
     let code = order.code;
@@ -83,7 +83,7 @@ fn window_by(mut settings: Settings, order: Order) -> Settings
 
 // The lamps, the shutter and the annealing: bit 0 is on, the bits above are the current or limit.
 fn currents_by(mut settings: Settings, order: Order) -> Settings
-    requires { ⌜ 8 ≤ order .code ⌝ ∗ ⌜ order .code ≤ 11 ⌝ ∗ ⌜ fit order ≡ true ⌝ }
+    requires { ⌜ ccdLamp ≤ order .code ⌝ ∗ ⌜ order .code ≤ annealing ⌝ ∗ ⌜ fit order ≡ true ⌝ }
     ensures { λ r. ⌜ r ≡ settingsBy settings order ⌝ }
 {
     let code = order.code;
@@ -110,7 +110,7 @@ fn currents_by(mut settings: Settings, order: Order) -> Settings
 
 // The mirror, its motor and the cover; the other orders set nothing.
 fn motions_by(mut settings: Settings, order: Order) -> Settings
-    requires { ⌜ 12 ≤ order .code ⌝ ∗ ⌜ fit order ≡ true ⌝ }
+    requires { ⌜ mirror ≤ order .code ⌝ ∗ ⌜ fit order ≡ true ⌝ }
     ensures { λ r. ⌜ r ≡ settingsBy settings order ⌝ }
 {
     let code = order.code;

@@ -2,6 +2,7 @@
 -- Assumes nothing.
 use mathlib.Core.Path.{_≡_}
 use native.Mathlib.Omega.{arith}
+use Rattle.plan.specs.Codes.{annealing}
 use Rattle.plan.specs.Reading.{settingsBy}
 use Rattle.plan.proofs.Registers.{current-most}
 use Rattle.plan.proofs.settings.currents_by.Statement.{statement}
@@ -32,7 +33,7 @@ returns-3 c = rw (c .match .keys3)
 returns-4 : tie.Need-returns-4
 unfolding settingsBy
 returns-4 c =
-    let is : c .before .before .before .args .order .code ≡ 11 = omega arith in
+    let is : c .before .before .before .args .order .code ≡ annealing = omega arith in
     rw is
 
 pub currents-by-spec : {M : Type 1} → statement M

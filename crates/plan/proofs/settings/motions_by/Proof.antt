@@ -2,6 +2,7 @@
 -- Assumes nothing.
 use Prim.Native.Nat.{_≤_}
 use native.Mathlib.Omega.{arith}
+use Rattle.plan.specs.Codes.{expose}
 use Rattle.plan.specs.Reading.{settingsBy}
 use Rattle.plan.proofs.Registers.{motor-most, settings-same}
 use borrow.Author.Needs.{needs}
@@ -31,7 +32,7 @@ returns-3 c = rw (c .match .keys3)
 returns-4 : tie.Need-returns-4
 returns-4 c =
     let a = c .before .args in
-    let past : 15 ≤ a .order .code = omega arith in
+    let past : expose ≤ a .order .code = omega arith in
     settings-same (a .order) past (a .settings)
 
 pub motions-by-spec : {M : Type 1} → statement M

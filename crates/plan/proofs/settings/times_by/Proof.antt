@@ -2,6 +2,7 @@
 -- Assumes nothing.
 use mathlib.Core.Path.{_≡_}
 use native.Mathlib.Omega.{arith}
+use Rattle.plan.specs.Codes.{ccdTimes}
 use Rattle.plan.specs.Reading.{settingsBy}
 use Rattle.plan.proofs.settings.times_by.Statement.{statement}
 use Rattle.plan.proofs.settings.times_by.Tie as tie
@@ -21,7 +22,7 @@ returns-3 c = rw (c .match .keys3)
 returns-4 : tie.Need-returns-4
 unfolding settingsBy
 returns-4 c =
-    let is : c .before .args .order .code ≡ 4 = omega arith in
+    let is : c .before .args .order .code ≡ ccdTimes = omega arith in
     rw is
 
 pub times-by-spec : {M : Type 1} → statement M

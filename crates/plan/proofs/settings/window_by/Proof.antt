@@ -2,6 +2,7 @@
 -- Assumes nothing.
 use mathlib.Core.Path.{_≡_}
 use native.Mathlib.Omega.{arith}
+use Rattle.plan.specs.Codes.{detector}
 use Rattle.plan.specs.Reading.{settingsBy}
 use Rattle.plan.proofs.settings.window_by.Statement.{statement}
 use Rattle.plan.proofs.settings.window_by.Tie as tie
@@ -17,7 +18,7 @@ returns-2 c = rw (c .match .keys2)
 returns-3 : tie.Need-returns-3
 unfolding settingsBy
 returns-3 c =
-    let is : c .before .args .order .code ≡ 7 = omega arith in
+    let is : c .before .args .order .code ≡ detector = omega arith in
     rw is
 
 pub window-by-spec : {M : Type 1} → statement M

@@ -18,53 +18,53 @@ cover-fits-requires c κs = search needs
 
 returns : tie.Need-returns
 unfolding rows related
-returns c = fits-one _ (rw (c .match .keys1)) 4095 (rw (c .match .keys1))
+returns c = fits-one _ (rw (c .match .keys1)) _ (rw (c .match .keys1))
 
 returns-2 : tie.Need-returns-2
 unfolding rows related
-returns-2 c = fits-one _ (rw (c .match .keys2)) 4095 (rw (c .match .keys2))
+returns-2 c = fits-one _ (rw (c .match .keys2)) _ (rw (c .match .keys2))
 
 returns-3 : tie.Need-returns-3
 unfolding rows related
-returns-3 c = fits-two _ (rw (c .match .keys3)) 1023 1023 (rw (c .match .keys3))
+returns-3 c = fits-two _ (rw (c .match .keys3)) _ _ (rw (c .match .keys3))
 
 returns-4 : tie.Need-returns-4
 unfolding rows related
-returns-4 c = fits-from _ (rw (c .match .keys4)) 5 1023 1023 (rw (c .match .keys4))
+returns-4 c = fits-from _ (rw (c .match .keys4)) 5 _ _ (rw (c .match .keys4))
 
 returns-5 : tie.Need-returns-5
 unfolding rows related
-returns-5 c = fits-one _ (rw (c .match .keys5)) 1 (rw (c .match .keys5))
+returns-5 c = fits-one _ (rw (c .match .keys5)) _ (rw (c .match .keys5))
 
 returns-6 : tie.Need-returns-6
 returns-6 c = c .window-fits .ensures ∙ rw (← (c .before .match .keys6))
 
 returns-7 : tie.Need-returns-7
 unfolding rows related
-returns-7 c = fits-one _ (rw (c .match .keys7)) 1 (rw (c .match .keys7))
+returns-7 c = fits-one _ (rw (c .match .keys7)) _ (rw (c .match .keys7))
 
 returns-8 : tie.Need-returns-8
 unfolding rows related
-returns-8 c = fits-two _ (rw (c .match .keys8)) 1 3 (rw (c .match .keys8))
+returns-8 c = fits-two _ (rw (c .match .keys8)) _ _ (rw (c .match .keys8))
 
 returns-9 : tie.Need-returns-9
 unfolding rows related
-returns-9 c = fits-two _ (rw (c .match .keys9)) 1 15 (rw (c .match .keys9))
+returns-9 c = fits-two _ (rw (c .match .keys9)) _ _ (rw (c .match .keys9))
 
 returns-10 : tie.Need-returns-10
 unfolding rows related
-returns-10 c = fits-two _ (rw (c .match .keys10)) 1 15 (rw (c .match .keys10))
+returns-10 c = fits-two _ (rw (c .match .keys10)) _ _ (rw (c .match .keys10))
 
 returns-11 : tie.Need-returns-11
 unfolding rows related
-returns-11 c = fits-two _ (rw (c .match .keys11)) 1 63 (rw (c .match .keys11))
+returns-11 c = fits-two _ (rw (c .match .keys11)) _ _ (rw (c .match .keys11))
 
 returns-12 : tie.Need-returns-12
 returns-12 c = c .mirror-fits .ensures ∙ rw (← (c .before .match .keys12))
 
 returns-13 : tie.Need-returns-13
 unfolding rows related
-returns-13 c = fits-one _ (rw (c .match .keys13)) 1 (rw (c .match .keys13))
+returns-13 c = fits-one _ (rw (c .match .keys13)) _ (rw (c .match .keys13))
 
 returns-14 : tie.Need-returns-14
 returns-14 c = c .cover-fits .ensures ∙ rw (← (c .before .match .keys14))
