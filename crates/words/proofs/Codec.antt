@@ -1,7 +1,7 @@
 -- Laws of the decoder and the encoder: how a table of kinds decodes, and the two round trips.
 -- Assumes nothing.
 use mathlib.Core.Path.{_≡_, refl, sym, _∙_, ap}
-use mathlib.Core.Bool.{Bool, true, false, cond}
+use mathlib.Core.Bool.{Bool, true, false, cond, not}
 use mathlib.Core.List.{List}
 use Prim.Native.Nat.{ℕ, _+_, _*_, _<_, _≤_, _/_}
 use native.Mathlib.Nat.{div-add-mod'}
@@ -13,11 +13,32 @@ use mir.Syntax.{w16}
 use mir.Val.{Fits}
 use lib.ListN.{getD}
 use Rattle.words.specs.Kinds.{rows, rowOf, kindFrom, kindOf, allowed, identifier, bitsOf, kinds}
-use Rattle.words.specs.Codec.{decodeOf, judged, encodeOf, wordOf}
+use Rattle.words.specs.Codec.{decodeOf, judged, encodeOf, wordOf, decodedNumber, encodedNumber, findingNumber, encodingNumber}
+use Rattle.words.specs.declared.Decoded.{Decoded}
 use Rattle.words.specs.declared.Decoded.the-variants.{Word, Unknown, OutOfRange}
+use Rattle.words.specs.declared.Encoded.{Encoded}
 use Rattle.words.specs.declared.Encoded.the-variants.{Made, Refused}
 use Rattle.words.proofs.Allowed.{allowed-kind, allowed-bits}
 use Rattle.words.proofs.Tables.{agree, agree-at, tabulates, tabulates-at, below, below-at}
+
+-- the number of what was decoded or encoded is the one that the word, or the kind and the data, give
+pub finding-number : (w : ℕ) (r : Decoded) → r ≡ decodeOf w → decodedNumber r ≡ findingNumber w
+unfolding decodedNumber findingNumber decodeOf judged
+finding-number w r e = rw e (go (ltb (kindOf (identifier w)) kinds) (allowed (kindOf (identifier w)) (bitsOf w)))
+  where
+    go : (a b : Bool) → decodedNumber (cond a (cond b (Word (kindOf (identifier w)) (bitsOf w)) (OutOfRange (kindOf (identifier w)))) Unknown)
+        ≡ cond (not a) 23 (cond (not b) 24 0)
+    go false b = refl
+    go true false = refl
+    go true true = refl
+
+pub encoding-number : (k d : ℕ) (r : Encoded) → r ≡ encodeOf k d → encodedNumber r ≡ encodingNumber k d
+unfolding encodedNumber encodingNumber encodeOf
+encoding-number k d r e = rw e (go (allowed k d))
+  where
+    go : (b : Bool) → encodedNumber (cond b (Made (wordOf k d)) Refused) ≡ cond (not b) 24 0
+    go true = refl
+    go false = refl
 
 -- a table of the kinds by identifier
 pub kind-by : (t : List ℕ) (w : ℕ) → T (tabulates t kindOf 64) → w < 65536 → getD t (w / 1024) 0 ≡ kindOf (w / 1024)

@@ -6,7 +6,7 @@ use kinds::KINDS;
 use kinds::MOST_STEPS;
 ghost use mathlib.Core.Path.{_≡_};
 ghost use Rattle.words.specs.Kinds.{allowed, identifier, kindOf};
-ghost use Rattle.words.specs.Codec.{decodeOf, encodeOf};
+ghost use Rattle.words.specs.Codec.{decodeOf, encodeOf, decodedNumber, encodedNumber, findingNumber, encodingNumber};
 
 // The kind of each identifier; 28 where no kind has it.
 const KIND_OF: [u8; 64] = [
@@ -184,6 +184,30 @@ pub enum Encoded {
     Refused,
 }
 
+// Document 01's numbers; 0 where there is nothing to refuse.
+impl Decoded {
+    pub fn number(self) -> u8
+        ensures { λ r. ⌜ r ≡ decodedNumber self ⌝ }
+    {
+        match self {
+            Decoded::Word { kind: _, bits: _ } => 0,
+            Decoded::Unknown => 23,
+            Decoded::OutOfRange { kind: _ } => 24,
+        }
+    }
+}
+
+impl Encoded {
+    pub fn number(self) -> u8
+        ensures { λ r. ⌜ r ≡ encodedNumber self ⌝ }
+    {
+        match self {
+            Encoded::Made(_) => 0,
+            Encoded::Refused => 24,
+        }
+    }
+}
+
 // Whether a word of this kind may hold these data. A number that is no kind allows none.
 pub fn allows(kind: u8, bits: u16) -> bool
     ensures { λ r. ⌜ r ≡ allowed kind bits ⌝ }
@@ -205,6 +229,7 @@ pub fn kind_of(word: u16) -> u8
 
 pub fn decode(word: u16) -> Decoded
     ensures { λ r. ⌜ r ≡ decodeOf word ⌝ }
+    ensures { λ r. ⌜ decodedNumber r ≡ findingNumber word ⌝ }
 {
     let kind = kind_of(word);
     if KINDS <= kind {
@@ -220,6 +245,7 @@ pub fn decode(word: u16) -> Decoded
 
 pub fn encode(kind: u8, bits: u16) -> Encoded
     ensures { λ r. ⌜ r ≡ encodeOf kind bits ⌝ }
+    ensures { λ r. ⌜ encodedNumber r ≡ encodingNumber kind bits ⌝ }
 {
     if allows(kind, bits) {
         Encoded::Made(IDENTIFIER[kind as usize] * 1024 + bits)

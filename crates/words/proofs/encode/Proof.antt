@@ -5,7 +5,7 @@ use mathlib.Core.Path.{_∙_, sym}
 use borrow.Author.Needs.{needs}
 use Rattle.words.specs.Kinds.{rows}
 use Rattle.words.proofs.Allowed.{allowed-kind}
-use Rattle.words.proofs.Codec.{encode-made, encode-refused, encode-fits, identifier-fits}
+use Rattle.words.proofs.Codec.{encode-made, encode-refused, encode-fits, identifier-fits, encoding-number}
 use Rattle.words.proofs.encode.Statement.{statement}
 use Rattle.words.proofs.encode.Tie as tie
 
@@ -26,11 +26,11 @@ add-t12 c = search (needs, encode-fits)
 
 returns : tie.Need-returns
 unfolding rows
-returns c = search (needs, encode-made)
+returns c = search (needs, encode-made, encoding-number)
 
 returns-2 : tie.Need-returns-2
 unfolding rows
-returns-2 c = search (needs, encode-refused)
+returns-2 c = search (needs, encode-refused, encoding-number)
 
 pub encode-spec : {M : Type 1} → statement M
 encode-spec = tie.close (tie.spec allows-requires mul-t7 array-read-t10 mul-t11 add-t12 returns returns-2)

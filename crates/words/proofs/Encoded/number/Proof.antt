@@ -1,0 +1,23 @@
+-- `words::Encoded::number` meets its contract, case by case.
+-- Assumes nothing.
+use Rattle.words.specs.Codec.{encodedNumber}
+use borrow.Author.Needs.{needs}
+use Rattle.words.proofs.Encoded.number.Statement.{statement}
+use Rattle.words.proofs.Encoded.number.Tie as tie
+
+enum-told : tie.Need-enum-told
+enum-told c = search needs
+
+enum-told-2 : tie.Need-enum-told-2
+enum-told-2 c = search needs
+
+returns : tie.Need-returns
+unfolding encodedNumber
+returns c = search needs
+
+returns-2 : tie.Need-returns-2
+unfolding encodedNumber
+returns-2 c = search needs
+
+pub number-spec : {M : Type 1} → statement M
+number-spec = tie.close (tie.spec enum-told enum-told-2 returns returns-2)
