@@ -7,3 +7,4 @@ pub mod Ignored
 pub mod Ticks
 pub mod Passing
 pub mod Findings
+pub mod Numbered

@@ -1,7 +1,16 @@
--- The numbers of document 01 for the head's answers. A taken word: 0, 1 for an exposure, 2 for housekeeping, the word itself for
--- a cover move.
+-- The numbers of the head's answers. 21-25 are the causes of document 01's table. What a taken word gives is request P1's of document
+-- 02: 0, but 1 for an exposure, 2 for housekeeping, the word itself for a cover move.
 -- Assumes nothing.
 use Prim.Native.Nat.{ℕ, _+_}
+use mathlib.Core.Bool.{cond, not, _&&_}
+use lib.Dec.{eqb, ltb}
+use Rattle.words.specs.Kinds as kind
+use Rattle.words.specs.Kinds.{identifier, bitsOf, allowed, kindOf, kinds}
+use Rattle.head.specs.Range.{inRange}
+use Rattle.head.specs.Word.{outOfTurn, stopWord}
+use Rattle.head.specs.declared.state.Task.{Task}
+use Rattle.head.specs.declared.state.Task.the-variants.{Idle, Acquisition, Housekeeping}
+use Rattle.head.specs.declared.state.Head.{Head}
 use Rattle.head.specs.declared.word.Act.{Act}
 use Rattle.head.specs.declared.word.Act.the-variants.{None, Exposure, Request, Cover}
 use Rattle.head.specs.declared.word.Cause.{Cause}
@@ -11,6 +20,7 @@ use Rattle.head.specs.declared.word.Outcome.the-variants.{Taken, Ignored
 use Rattle.head.specs.declared.tick.Due.{Due}
 use Rattle.head.specs.declared.tick.Due.the-variants.{Nothing, Blocks, Refused}
 
+-- COVER's word is 0x1000 above its data bits.
 unfoldable pub actNumber : Act → ℕ
 actNumber None = 0
 actNumber Exposure = 1
@@ -29,7 +39,33 @@ unfoldable pub outcomeNumber : Outcome → ℕ
 outcomeNumber (Taken a) = actNumber a
 outcomeNumber (Ignored c) = causeNumber c
 
+-- The tasks; these numbers are ours, since the papers give none.
+unfoldable pub taskNumber : Task → ℕ
+taskNumber Idle = 0
+taskNumber Acquisition = 1
+taskNumber Housekeeping = 2
+
+-- A tick: 0 where nothing is due, the task that ended where blocks are due, 21 where the state is out of range.
 unfoldable pub dueNumber : Due → ℕ
 dueNumber Nothing = 0
-dueNumber (Blocks t f) = 0
+dueNumber (Blocks t f) = taskNumber t
 dueNumber Refused = 21
+
+-- The same numbers from the state and the word itself: what a taken word w gives, and the answer in the order of the checks.
+unfoldable pub takenNumber : ℕ → ℕ
+takenNumber w =
+    let k = kindOf (identifier w) in
+    cond (eqb k kind.start) 1 (cond (eqb k kind.hk) 2 (cond (eqb k kind.cover) w 0))
+
+unfoldable pub answerNumber : Head → ℕ → ℕ
+answerNumber s w =
+    let k = kindOf (identifier w) in
+    cond (not (inRange s)) 21
+    (cond (ltb 0 (s .work .busy) && not (eqb w stopWord)) 22
+    (cond (not (ltb k kinds)) 23
+    (cond (not (allowed k (bitsOf w))) 24
+    (cond (eqb k kind.cover && ltb 0 (s .motion .cover)) 22
+    (cond (outOfTurn (s .begun .count) k) 25 (takenNumber w))))))
+
+unfoldable pub tickNumber : Head → ℕ
+tickNumber s = cond (not (inRange s)) 21 (cond (eqb (s .work .busy) 1) (taskNumber (s .work .task)) 0)

@@ -2,6 +2,7 @@
 pub mod apply;
 pub mod flags;
 pub mod grid;
+pub mod numbers;
 pub mod pass;
 pub mod range;
 pub mod state;

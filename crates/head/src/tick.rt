@@ -7,6 +7,7 @@ use crate::state::Work;
 ghost use mathlib.Core.Path.{_≡_};
 ghost use Prim.Native.Nat.{_-_};
 ghost use Rattle.head.specs.State.{noFlags};
+ghost use Rattle.head.specs.Numbers.{dueNumber, tickNumber};
 ghost use Rattle.head.specs.Tick.{motionDown, passed, tickOf};
 
 pub enum Due {
@@ -90,6 +91,7 @@ impl Head {
 
     pub fn tick(self) -> Ticked
         ensures { λ r. ⌜ r ≡ tickOf self ⌝ }
+        ensures { λ r. ⌜ dueNumber (r .due) ≡ tickNumber self ⌝ }
     {
         if self.in_range() {
             return self.ticked();

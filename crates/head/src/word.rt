@@ -14,6 +14,7 @@ ghost use mathlib.Core.Path.{_≡_};
 ghost use mathlib.Core.Bool.{true, false};
 ghost use Prim.Native.Nat.{_<_};
 ghost use Rattle.head.specs.Apply.{actOf};
+ghost use Rattle.head.specs.Numbers.{outcomeNumber, answerNumber};
 ghost use Rattle.head.specs.ByGrid.{isWord, waiting, byGrid, byFinding};
 ghost use Rattle.head.specs.Range.{inRange};
 ghost use Rattle.head.specs.Flags.{mirrorWord};
@@ -195,6 +196,7 @@ impl Head {
 
     pub fn word(self, word: u16) -> Answered
         ensures { λ r. ⌜ r ≡ answerOf self word ⌝ }
+        ensures { λ r. ⌜ outcomeNumber (r .outcome) ≡ answerNumber self word ⌝ }
     {
         if !self.in_range() {
             return Answered {

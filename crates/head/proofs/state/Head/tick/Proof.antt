@@ -1,6 +1,6 @@
 -- `head::state::Head::tick` meets its contract.
 -- Assumes nothing.
-use Rattle.head.specs.Tick.{tickOf}
+use Rattle.head.proofs.Numbered.{way-passed, passed-number, way-refused, refused-number}
 use borrow.Author.Needs.{needs}
 use Rattle.head.proofs.state.Head.tick.Statement.{statement}
 use Rattle.head.proofs.state.Head.tick.Tie as tie
@@ -12,12 +12,10 @@ ticked-requires : tie.Need-ticked-requires
 ticked-requires c κs = search needs
 
 returns : tie.Need-returns
-unfolding tickOf
-returns c = simp (c .ticked .ensures, ← c .before .before .in-range .ensures, c .before .if1 .taken)
+returns c = search (needs, way-passed, passed-number)
 
 returns-2 : tie.Need-returns-2
-unfolding tickOf
-returns-2 c = simp (← c .before .in-range .ensures, c .if1 .left)
+returns-2 c = search (needs, way-refused, refused-number)
 
 pub tick-spec : {M : Type 1} → statement M
 tick-spec = tie.close (tie.spec in-range-requires ticked-requires returns returns-2)
