@@ -10,7 +10,7 @@ word-requires c κs = search needs
 
 log-outcome-requires : tie.Need-log-outcome-requires
 unfolding momentLog
-log-outcome-requires c κs = rw (c .before .before .word .ensures) (c .before .before .before .before .before .pre)
+log-outcome-requires c κs = rw (c .before .before .word .ensures .0) (c .before .before .before .before .before .pre)
 
 tick-requires : tie.Need-tick-requires
 tick-requires c κs = search needs
@@ -24,8 +24,8 @@ same-length-2 c = search needs
 returns : tie.Need-returns
 unfolding next answered momentLog
 returns c =
-    let word = c .before .before .before .before .before .before .before .before .before .word .ensures in
-    (simp (c .before .tick .ensures, word), rw word at (c .before .before .before .before .before .before .log-outcome .ensures))
+    let word = c .before .before .before .before .before .before .before .before .before .word .ensures .0 in
+    (simp (c .before .tick .ensures .0, word), rw word at (c .before .before .before .before .before .before .log-outcome .ensures))
 
 pub give-spec : {M : Type 1} → statement M
 give-spec =
