@@ -28,15 +28,23 @@ ccdReadout = 145
 unfoldable pub readoutOf : ℕ → ℕ
 readoutOf mode = cond (eqb mode 0) 140 60
 
--- Length of an acquisition in ticks; the 1 because the repetition must be strictly longer.
+-- The 1 in an acquisition's length: the repetition must be strictly longer.
+abbrev pub extraTicks : ℕ
+extraTicks = 1
+
+-- Length of an acquisition in ticks.
 unfoldable pub lengthBy : ℕ → ℕ → ℕ → ℕ → ℕ → ℕ
 lengthBy mode irdelay irexpo ccddelay ccdexpo =
-    1 + max (stepTicks * (ccddelay + ccdexpo) + ccdReadout) (stepTicks * (irdelay + irexpo) + readoutOf mode)
+    extraTicks + max (stepTicks * (ccddelay + ccdexpo) + ccdReadout) (stepTicks * (irdelay + irexpo) + readoutOf mode)
 
 unfoldable pub lengthOf : Settings → ℕ
 unfolding lengthBy
 lengthOf s = lengthBy (s .mode) (s .irdelay) (s .irexpo) (s .ccddelay) (s .ccdexpo)
 
--- It lies in 156..4238.
+-- The largest data of a delay or an exposure word.
+abbrev pub mostTime : ℕ
+mostTime = 0x3FF
+
+-- It lies in 156..4238: the longest has both of the CCD's times at their largest.
 abbrev pub longest : ℕ
-longest = 4238
+longest = extraTicks + (stepTicks * (mostTime + mostTime) + ccdReadout)

@@ -70,7 +70,8 @@ pub fn acquisition_ticks(mode: u16, irdelay: u16, irexpo: u16, ccddelay: u16, cc
 {
     let ccd = channel(ccddelay, ccdexpo, Head::CCD_READOUT);
     let ir = channel(irdelay, irexpo, readout(mode));
-    1 + larger(ccd, ir)
+    let extra = Head::EXTRA_TICKS as u32;
+    extra + larger(ccd, ir)
 }
 
 impl Settings {

@@ -14,27 +14,27 @@ impl Settings {
     pub fn in_range(self) -> bool
         ensures { λ r. ⌜ r ≡ all true (registerTests self) ⌝ }
     {
-        (self.detector <= 1)
-            & (self.mode <= 1)
-            & (self.vdetcom <= 4095)
-            & (self.vdetadj <= 4095)
-            & (self.irdelay <= 1023)
-            & (self.irexpo <= 1023)
-            & (5 <= self.ccddelay)
-            & (self.ccddelay <= 1023)
-            & (self.ccdexpo <= 1023)
-            & (self.x1 <= 1023)
-            & (self.y1 <= 511)
-            & (self.x2 <= 1023)
-            & (self.y2 <= 511)
-            & (self.ccdlamp <= 7)
-            & (self.irlamp <= 31)
-            & (self.shutter <= 31)
-            & (self.annealing <= 127)
-            & (self.sine <= 8191)
-            & (self.cosine <= 4095)
-            & (self.switch <= 1)
-            & (self.direction <= 1)
+        (self.detector <= Head::MOST_BIT)
+            & (self.mode <= Head::MOST_BIT)
+            & (self.vdetcom <= Head::MOST_VOLTAGE)
+            & (self.vdetadj <= Head::MOST_VOLTAGE)
+            & (self.irdelay <= Head::MOST_TIME)
+            & (self.irexpo <= Head::MOST_TIME)
+            & (Head::LEAST_CCD_DELAY <= self.ccddelay)
+            & (self.ccddelay <= Head::MOST_TIME)
+            & (self.ccdexpo <= Head::MOST_TIME)
+            & (self.x1 <= Head::MOST_X)
+            & (self.y1 <= Head::MOST_Y)
+            & (self.x2 <= Head::MOST_X)
+            & (self.y2 <= Head::MOST_Y)
+            & (self.ccdlamp <= Head::MOST_CCD_LAMP)
+            & (self.irlamp <= Head::MOST_IR_LAMP)
+            & (self.shutter <= Head::MOST_SHUTTER)
+            & (self.annealing <= Head::MOST_ANNEALING)
+            & (self.sine <= Head::MOST_SINE)
+            & (self.cosine <= Head::MOST_COSINE)
+            & (self.switch <= Head::MOST_BIT)
+            & (self.direction <= Head::MOST_BIT)
     }
 }
 
@@ -42,7 +42,7 @@ impl Latches {
     pub fn in_range(self) -> bool
         ensures { λ r. ⌜ r ≡ all true (latchTests self) ⌝ }
     {
-        (self.vdetcom <= 15) & (self.vdetadj <= 15)
+        (self.vdetcom <= Head::MOST_LATCH) & (self.vdetadj <= Head::MOST_LATCH)
     }
 }
 
@@ -58,10 +58,10 @@ impl Begun {
     pub fn in_range(self) -> bool
         ensures { λ r. ⌜ r ≡ all true (begunTests self) ⌝ }
     {
-        let first = ((1 <= self.count) & (self.sinm <= 31)) | (self.sinm == 0);
-        let second = ((2 <= self.count) & (self.sinl <= 255)) | (self.sinl == 0);
-        let third = ((3 <= self.count) & (self.cosm <= 15)) | (self.cosm == 0);
-        (self.count <= 3) & first & second & third
+        let first = ((1 <= self.count) & (self.sinm <= Head::MOST_SIN_M)) | (self.sinm == 0);
+        let second = ((2 <= self.count) & (self.sinl <= Head::MOST_SIN_L)) | (self.sinl == 0);
+        let third = ((3 <= self.count) & (self.cosm <= Head::MOST_COS_M)) | (self.cosm == 0);
+        (self.count <= Head::MOST_BEGUN) & first & second & third
     }
 }
 

@@ -1,4 +1,5 @@
-// The state of the head, and the values that time it.
+// The state of the head, its limits and the numbers of ticks that time it.
+use words::kinds;
 ghost use mathlib.Core.Path.{_≡_};
 ghost use Rattle.head.specs.State.{powerOn};
 
@@ -79,13 +80,51 @@ pub struct Head {
     pub begun: Begun,
 }
 
+// The limits of a state in range.
 impl Head {
-    // A tick is 10 ms.
+    // A register of one bit: the detector, the IR window mode, SWITCH, the cover's direction.
+    pub const MOST_BIT: u16 = 1;
+    // VDETCOM and VDETADJ, and the latches that hold their top four bits.
+    pub const MOST_VOLTAGE: u16 = 4095;
+
+    pub const MOST_LATCH: u16 = 15;
+    // The delays and the exposures of both channels. The CCD's delay is at least 0.1 s.
+    pub const MOST_TIME: u16 = 1023;
+
+    pub const LEAST_CCD_DELAY: u16 = kinds::LEAST_CCD_DELAY;
+    // The CCD's window.
+    pub const MOST_X: u16 = 1023;
+
+    pub const MOST_Y: u16 = 511;
+    // The lamps, the shutter and the annealing, each as its word's data.
+    pub const MOST_CCD_LAMP: u16 = 7;
+
+    pub const MOST_IR_LAMP: u16 = 31;
+
+    pub const MOST_SHUTTER: u16 = 31;
+
+    pub const MOST_ANNEALING: u16 = 127;
+    // The mirror's pair: twelve bits, and the sine's sign above them.
+    pub const MOST_SINE: u16 = 8191;
+
+    pub const MOST_COSINE: u16 = 4095;
+    // A begun set: how many words, and the data of each.
+    pub const MOST_BEGUN: u16 = 3;
+
+    pub const MOST_SIN_M: u16 = 31;
+
+    pub const MOST_SIN_L: u16 = 255;
+
+    pub const MOST_COS_M: u16 = 15;
+}
+
+// The numbers of ticks that time the head. A tick is 10 ms.
+impl Head {
     pub const MIRROR_TICKS: u16 = 30;
 
     pub const COVER_STEP_TICKS: u16 = 25;
 
-    pub const MOST_COVER_TICKS: u16 = 2025;
+    pub const MOST_COVER_TICKS: u16 = Head::COVER_STEP_TICKS * kinds::MOST_STEPS;
 
     pub const HK_TICKS: u16 = 3;
     // The ticks of one step of a delay or an exposure.
@@ -96,9 +135,15 @@ impl Head {
     pub const FULL_READOUT: u16 = 140;
 
     pub const REDUCED_READOUT: u16 = 60;
+    // An acquisition is this much longer than its slower channel.
+    pub const EXTRA_TICKS: u16 = 1;
+    // The longest acquisition.
+    pub const LONGEST: u16 = Head::EXTRA_TICKS
+        + Head::STEP_TICKS * (Head::MOST_TIME + Head::MOST_TIME)
+        + Head::CCD_READOUT;
+}
 
-    pub const LONGEST: u16 = 4238;
-
+impl Head {
     pub fn power_on() -> Head
         ensures { λ r. ⌜ r ≡ powerOn ⌝ }
     {

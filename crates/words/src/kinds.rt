@@ -60,3 +60,6 @@ pub const KINDS: u8 = 28;
 
 // The largest number of steps in a COVER word.
 pub const MOST_STEPS: u16 = 81;
+
+// The least delay of the CCD, 0.1 s.
+pub const LEAST_CCD_DELAY: u16 = 5;

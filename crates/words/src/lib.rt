@@ -3,6 +3,7 @@ pub mod kinds;
 
 use kinds::COVER;
 use kinds::KINDS;
+use kinds::LEAST_CCD_DELAY;
 use kinds::MOST_STEPS;
 ghost use mathlib.Core.Path.{_≡_};
 ghost use Rattle.words.specs.Kinds.{allowed, identifier, kindOf};
@@ -94,7 +95,7 @@ const LEAST: [u16; 28] = [
     0, // WIN Y1
     0, // WIN X2
     0, // WIN Y2
-    5, // CCD DELAY
+    LEAST_CCD_DELAY, // CCD DELAY
     0, // CCD EXPO
     0, // CCD LAMP
     0, // IR LAMP

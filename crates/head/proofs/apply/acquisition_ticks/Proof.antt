@@ -14,6 +14,9 @@ readout-requires c κs = search needs
 channel-requires-2 : tie.Need-channel-requires-2
 channel-requires-2 c κs = search needs
 
+cast-extra : tie.Need-cast-extra
+cast-extra c = search needs
+
 larger-requires : tie.Need-larger-requires
 larger-requires c κs = search needs
 
@@ -22,8 +25,8 @@ add-result c = search needs
 
 returns : tie.Need-returns
 unfolding lengthBy
-returns c = cc
+returns c = search needs
 
 pub acquisition-ticks-spec : {M : Type 1} → statement M
 acquisition-ticks-spec =
-    tie.close (tie.spec channel-requires readout-requires channel-requires-2 larger-requires add-result returns)
+    tie.close (tie.spec channel-requires readout-requires channel-requires-2 cast-extra larger-requires add-result returns)
