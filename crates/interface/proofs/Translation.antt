@@ -109,15 +109,15 @@ module _ (t : Translated) (small : Small t) (n m : ℕ) where
 
 module _ (t : Translated) (r n m : ℕ) where
   pub done-answer : t ≡ Done n m → r ≡ packed 0 n m → r ≡ translatedAnswer t
-  unfolding translatedAnswer translatedNumber countIn lastIn
+  unfolding translatedAnswer countIn lastIn
   done-answer e is = rw e is
 
   pub refused-answer : t ≡ Refused n m → r ≡ packed n 0 m → r ≡ translatedAnswer t
-  unfolding translatedAnswer translatedNumber countIn lastIn
+  unfolding translatedAnswer countIn lastIn
   refused-answer e is = rw e is
 
   pub short-answer : t ≡ Short n → r ≡ packed 10 n 0 → r ≡ translatedAnswer t
-  unfolding translatedAnswer translatedNumber countIn lastIn
+  unfolding translatedAnswer countIn lastIn
   short-answer e is = rw e is
 
 -- the ways through the exported function: l is the state's array, i what `well_formed` answered, a and b the buffers' lengths
@@ -128,7 +128,7 @@ module _ (l bs : List ℕ) (a b : ℕ) (i : Bool) (is : i ≡ wellFormed l) wher
     ill = rw (sym is ∙ not-true i bad)
 
     pub translate-ill : 1 ≡ translatedAnswer (translatedOf l bs a b)
-    unfolding translatedAnswer translatedNumber countIn lastIn
+    unfolding translatedAnswer countIn lastIn
     translate-ill = rw ill
 
     pub translate-ill-left : (old values : List ℕ) → old ≡ filled (translatedOf l bs a b) values old

@@ -12,11 +12,11 @@ use Rattle.plan.specs.Read.{readRecord}
 use Rattle.plan.specs.Stored.{planOf}
 use Rattle.plan.proofs.Recorded.{record-long}
 use Rattle.schedule.specs.Schedule.{Schedule}
-use Rattle.schedule.specs.Translate.{mostWords, scheduleOf, translateOf, filled, tickList, wordList}
+use Rattle.schedule.specs.Translate.{mostWords, scheduleOf, translateOf, filled, tickList, wordList, translatedNumber, translatedPlace, translationNumber, translationPlace}
 use Rattle.schedule.specs.declared.Translated.{Translated}
 use Rattle.run.specs.Run.{momentsOf, headAfter, logOf}
-use Rattle.run.specs.Rehearse.{rehearsedBy, rehearseOf, translationOf, runOf, runRecord, runTimes}
-use Rattle.run.specs.Compare.{same, comparedBy, comparedOf}
+use Rattle.run.specs.Rehearse.{rehearsedBy, rehearseOf, translationOf, runOf, runRecord, runTimes, rehearsedNumber, rehearsedPlace}
+use Rattle.run.specs.Compare.{same, comparedBy, comparedOf, comparedNumber, comparedPlace}
 use Rattle.run.specs.declared.Rehearsed.{Rehearsed}
 use Rattle.run.specs.declared.compare.Compared.{Compared}
 use Rattle.run.proofs.Accepted.{translated-list, translated-end, translated-acts}
@@ -24,7 +24,7 @@ use Rattle.run.proofs.Rehearsal.{Answers}
 
 -- the translation's answer, and the number of acts, in a rehearsal's
 translation-back : (s : Head) (sch : Schedule) (t : Translated) → translationOf (rehearsedBy s sch t) ≡ t
-unfolding translationOf rehearsedBy
+unfolding rehearsedBy
 translation-back s sch (Translated.Done n e) = refl
 translation-back s sch (Translated.Refused n p) = refl
 translation-back s sch (Translated.Short n) = refl
@@ -39,7 +39,9 @@ abbrev Promised : Head → List ℕ → List ℕ → List ℕ → Compared → L
 Promised s bs R A c R' A' =
     let sch = scheduleOf s (planOf bs) in
     (c ≡ comparedOf s bs)
-    × ((R' ≡ filled (translateOf s bs mostWords mostWords) (runRecord s sch) R) × (A' ≡ filled (translateOf s bs mostWords mostWords) (runTimes s sch) A))
+    × ((R' ≡ filled (translateOf s bs mostWords mostWords) (runRecord s sch) R)
+    × ((A' ≡ filled (translateOf s bs mostWords mostWords) (runTimes s sch) A)
+    × ((comparedNumber c ≡ translationNumber s bs mostWords mostWords) × (comparedPlace c ≡ translationPlace s bs))))
 
 module _ (s : Head) (bs W T R A : List ℕ) (longW : length W ≡ mostWords) (longT : length T ≡ mostWords)
     {W' T' R' A' : List ℕ} {r : Rehearsed} (ran : Answers s bs W T R A r W' T' R' A') where
@@ -59,17 +61,25 @@ module _ (s : Head) (bs W T R A : List ℕ) (longW : length W ≡ mostWords) (lo
   times-are : A' ≡ filled (translateOf s bs mostWords mostWords) (runTimes s sch) A
   times-are = rw answer at (ran .1 .1 .1 .1 .0)
 
-  pub way-refused : {n p : ℕ} → r ≡ Rehearsed.Refused n p → Promised s bs R A (Compared.Refused n p) R' A'
-  unfolding translationOf comparedBy comparedOf
-  way-refused is = (rw (← answer, is), (rows-are, times-are))
+  number-is : rehearsedNumber r ≡ translationNumber s bs mostWords mostWords
+  number-is = rw (longW, longT) at (ran .1 .1 .1 .1 .1 .1 .0)
 
-  pub way-short : {n : ℕ} → r ≡ Rehearsed.Short n → Promised s bs R A (Compared.Refused 10 0) R' A'
-  unfolding translationOf comparedBy comparedOf
-  way-short is = (rw (← answer, is), (rows-are, times-are))
+  place-is : rehearsedPlace r ≡ translationPlace s bs
+  place-is = ran .1 .1 .1 .1 .1 .1 .1
+
+  -- not done: the answer has the number and the place of the translation's
+  pub way-refused : ((h : Head) (n e a : ℕ) → r ≡ Rehearsed.Done h n e a → ⊥) → {n p : ℕ} → n ≡ rehearsedNumber r → p ≡ rehearsedPlace r
+      → Promised s bs R A (Compared.Refused n p) R' A'
+  unfolding comparedBy comparedOf
+  way-refused other {n} {p} is at = (same-answer r refl, (rows-are, (times-are, (is ∙ number-is, at ∙ place-is))))
+    where
+      same-answer : (r' : Rehearsed) → r ≡ r' → Compared.Refused n p ≡ comparedOf s bs
+      same-answer (Rehearsed.Done h m e a) k = absurd (other h m e a k)
+      same-answer (Rehearsed.Refused m q) k = rw (is, at, ← answer, k)
+      same-answer (Rehearsed.Short m) k = rw (is, at, ← answer, k)
 
   module _ {h : Head} {n e a : ℕ} (is : r ≡ Rehearsed.Done h n e a) where
     done : translateOf s bs mostWords mostWords ≡ Translated.Done n e
-    unfolding translationOf
     done = sym answer ∙ ap translationOf is
 
     translated : Translated.Done n e ≡ translateOf s bs (length W) (length T)
@@ -109,4 +119,4 @@ module _ (s : Head) (bs W T R A : List ℕ) (longW : length W ≡ mostWords) (lo
     unfolding comparedBy comparedOf
     way-done compared =
         let equal = compared ∙ ap (λ (l : List ℕ). same l (readRecord (s .settings) (planOf bs))) front in
-        (rw (done, acts-are, equal), (rows-are, times-are))
+        (rw (done, acts-are, equal), (rows-are, (times-are, (rw is at number-is, rw is at place-is))))

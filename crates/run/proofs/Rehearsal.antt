@@ -13,11 +13,12 @@ use Rattle.plan.specs.Stored.{planOf, ordersIn}
 use Rattle.plan.proofs.Laid.{sets-front}
 use Rattle.plan.proofs.Recorded.{record-front}
 use Rattle.schedule.specs.Schedule.{Schedule, Rising}
-use Rattle.schedule.specs.Translate.{scheduleOf, filled, tickList, wordList}
+use Rattle.schedule.specs.Translate.{scheduleOf, filled, tickList, wordList, translatedNumber, translatedPlace, translationNumber, translationPlace}
 use Rattle.schedule.specs.declared.Translated.{Translated}
 use Rattle.schedule.proofs.Translating.{Told}
+use Rattle.schedule.proofs.Numbered.{Promised, told}
 use Rattle.run.specs.Run.{momentsOf, headAfter, logOf, timesOf}
-use Rattle.run.specs.Rehearse.{rehearsedBy, rehearseOf, translationOf, buffered, runOf, runRecord, runTimes, Fulfilled}
+use Rattle.run.specs.Rehearse.{rehearsedBy, rehearseOf, translationOf, buffered, runOf, runRecord, runTimes, Fulfilled, rehearsedNumber, rehearsedPlace}
 use Rattle.run.specs.declared.Rehearsed.{Rehearsed}
 use Rattle.run.proofs.Quiet.{times-long}
 use Rattle.run.proofs.Accepted.{room-words, room-ticks, translated-list, translated-end, translated-acts, translated-rising, translated-demands}
@@ -31,20 +32,25 @@ Answers s bs W T R A r W' T' R' A' =
     × ((T' ≡ filled (translationOf r) (tickList sch) T)
     × ((R' ≡ filled (translationOf r) (runRecord s sch) R)
     × ((A' ≡ filled (translationOf r) (runTimes s sch) A)
-    × Fulfilled s bs W' T' r))))
+    × (Fulfilled s bs W' T' r
+    × ((rehearsedNumber r ≡ translationNumber s bs (length W) (length T)) × (rehearsedPlace r ≡ translationPlace s bs)))))))
 
-module _ (s : Head) (bs W T R A : List ℕ) {W' T' : List ℕ} {r : Translated} (told : Told s bs W T r W' T') where
+module _ (s : Head) (bs W T R A : List ℕ) {W' T' : List ℕ} {r : Translated} (given : Promised s bs W T r W' T') where
   pub way-refused : {n p : ℕ} → r ≡ Translated.Refused n p → Answers s bs W T R A (Rehearsed.Refused n p) W' T' R A
-  unfolding rehearseOf rehearsedBy translationOf filled Fulfilled
-  way-refused is = let t = rw is at told in (rw (← (t .0)) refl, (t .1 .0, (t .1 .1, (refl, (refl, tt)))))
+  unfolding rehearseOf rehearsedBy filled Fulfilled
+  way-refused is = let t = rw is at given in (rw (← (t .0)) refl, (t .1 .0, (t .1 .1 .0, (refl, (refl, (tt, t .1 .1 .1))))))
 
   pub way-short : {n : ℕ} → r ≡ Translated.Short n → Answers s bs W T R A (Rehearsed.Short n) W' T' R A
-  unfolding rehearseOf rehearsedBy translationOf filled Fulfilled
-  way-short is = let t = rw is at told in (rw (← (t .0)) refl, (t .1 .0, (t .1 .1, (refl, (refl, tt)))))
+  unfolding rehearseOf rehearsedBy filled Fulfilled
+  way-short is = let t = rw is at given in (rw (← (t .0)) refl, (t .1 .0, (t .1 .1 .0, (refl, (refl, (tt, t .1 .1 .1))))))
 
   module _ {n e : ℕ} (is : r ≡ Translated.Done n e) where
     done : Told s bs W T (Translated.Done n e) W' T'
-    done = rw is at told
+    done = rw is at (told s bs W T given)
+
+    numbers : (translatedNumber (Translated.Done n e) ≡ translationNumber s bs (length W) (length T))
+        × (translatedPlace (Translated.Done n e) ≡ translationPlace s bs)
+    numbers = rw is at (given .1 .1 .1)
 
     pub way-words : n ≤ length W'
     way-words = room-words s bs W T W' T' n e (done .0) (done .1 .0) (done .1 .1)
@@ -91,7 +97,7 @@ module _ (s : Head) (bs W T R A : List ℕ) {W' T' : List ℕ} {r : Translated} 
           × ((a ≡ length (logOf (runOf s (buffered n e T' W'))))
           × ((R' ≡ sets R 0 (runRecord s (buffered n e T' W'))) × (A' ≡ sets A 0 (runTimes s (buffered n e T' W')))))
           → Answers s bs W T R A (Rehearsed.Done h n e a) W' T' R' A'
-      unfolding rehearseOf rehearsedBy translationOf Fulfilled
+      unfolding rehearseOf rehearsedBy Fulfilled
       way-done {a = a} ran =
           let sch = scheduleOf s (planOf bs) in
           let head = ran .0 ∙ ap (λ (x : Schedule). headAfter e 0 (x .list) s) same in
@@ -107,7 +113,7 @@ module _ (s : Head) (bs W T R A : List ℕ) {W' T' : List ℕ} {r : Translated} 
                   way-rows longRows (ran .1 .1 .0),
                   (
                     way-times longTimes (ran .1 .1 .1),
-                    (ran .0, translated-demands s bs W T W' T' n e (done .0) (done .1 .0) (done .1 .1)),
+                    ((ran .0, translated-demands s bs W T W' T' n e (done .0) (done .1 .0) (done .1 .1)), numbers),
                   ),
                 ),
               ),

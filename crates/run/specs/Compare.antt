@@ -9,7 +9,7 @@ use Rattle.head.specs.declared.state.Head.{Head}
 use Rattle.plan.specs.Read.{readRecord}
 use Rattle.plan.specs.Stored.{Plan, planOf}
 use Rattle.schedule.specs.Schedule.{Schedule}
-use Rattle.schedule.specs.Translate.{mostWords, scheduleOf, translateOf}
+use Rattle.schedule.specs.Translate.{mostWords, scheduleOf, translateOf, translatedNumber, translatedPlace}
 use Rattle.schedule.specs.declared.Translated.{Translated}
 use Rattle.run.specs.Run.{logOf}
 use Rattle.run.specs.Rehearse.{runOf, runRecord}
@@ -23,22 +23,22 @@ same (x ∷ xs) [] = false
 same (x ∷ xs) (y ∷ ys) = eqb x y && same xs ys
 
 -- The number of acts the head made, the end, and whether the head's record is that of the plan read without words. A refusal is the
--- translation's; 10, a buffer shorter than the count, has place 0.
+-- translation's.
 unfoldable pub comparedBy : Head → Plan → Schedule → Translated → Compared
 comparedBy s p sch (Translated.Done n e) =
     Compared.Done (length (logOf (runOf s sch))) e (same (runRecord s sch) (readRecord (s .settings) p))
 comparedBy s p sch (Translated.Refused n q) = Compared.Refused n q
-comparedBy s p sch (Translated.Short n) = Compared.Refused 10 0
+comparedBy s p sch (Translated.Short n) = Compared.Refused (translatedNumber (Translated.Short n)) (translatedPlace (Translated.Short n))
 
 -- The translation has room for the most words that a plan has.
 unfoldable pub comparedOf : Head → List ℕ → Compared
 comparedOf s bs = comparedBy s (planOf bs) (scheduleOf s (planOf bs)) (translateOf s bs mostWords mostWords)
 
 -- The refusal's number of document 01, 0 for none, and its byte place.
-unfoldable pub comparedNumber : Compared → ℕ
+abbrev pub comparedNumber : Compared → ℕ
 comparedNumber (Compared.Done a e b) = 0
 comparedNumber (Compared.Refused n p) = n
 
-unfoldable pub comparedPlace : Compared → ℕ
+abbrev pub comparedPlace : Compared → ℕ
 comparedPlace (Compared.Done a e b) = 0
 comparedPlace (Compared.Refused n p) = p

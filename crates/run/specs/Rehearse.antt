@@ -8,7 +8,7 @@ use Rattle.head.specs.declared.state.Head.{Head}
 use Rattle.plan.specs.Rows.{recordOf}
 use Rattle.plan.specs.Stored.{planOf, ordersIn}
 use Rattle.schedule.specs.Schedule.{Schedule}
-use Rattle.schedule.specs.Translate.{scheduleOf, translateOf}
+use Rattle.schedule.specs.Translate.{scheduleOf, translateOf, translatedNumber, translatedPlace}
 use Rattle.schedule.specs.declared.Translated.{Translated}
 use Rattle.run.specs.Run.{Moment, momentsOf, headAfter, logOf, timesOf}
 use Rattle.run.specs.Claim.{paired, Demands}
@@ -41,11 +41,18 @@ rehearsedBy s sch (Translated.Short n) = Rehearsed.Short n
 unfoldable pub rehearseOf : Head → List ℕ → ℕ → ℕ → Rehearsed
 rehearseOf s bs a b = rehearsedBy s (scheduleOf s (planOf bs)) (translateOf s bs a b)
 
--- The translation's answer in a rehearsal's; its number and place are the translation's.
-unfoldable pub translationOf : Rehearsed → Translated
+-- The translation's answer in a rehearsal's.
+abbrev pub translationOf : Rehearsed → Translated
 translationOf (Rehearsed.Done h n e a) = Translated.Done n e
 translationOf (Rehearsed.Refused n p) = Translated.Refused n p
 translationOf (Rehearsed.Short n) = Translated.Short n
+
+-- The refusal's number of document 01, 0 for none, and its byte place: the translation's.
+abbrev pub rehearsedNumber : Rehearsed → ℕ
+rehearsedNumber r = translatedNumber (translationOf r)
+
+abbrev pub rehearsedPlace : Rehearsed → ℕ
+rehearsedPlace r = translatedPlace (translationOf r)
 
 -- Where the answer is a head, W and T hold the words and ticks by which the plan keeps demands 2 and 3, and the head is the one at the end
 -- of that run.

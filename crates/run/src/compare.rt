@@ -12,9 +12,9 @@ ghost use Prim.Native.Nat.{_+_, _*_, _≤_};
 ghost use lib.ListN.{length, take};
 ghost use Rattle.plan.specs.Read.{readRecord};
 ghost use Rattle.plan.specs.Stored.{planOf};
-ghost use Rattle.schedule.specs.Translate.{mostWords, scheduleOf, translateOf, filled};
+ghost use Rattle.schedule.specs.Translate.{mostWords, scheduleOf, translateOf, filled, translationNumber, translationPlace};
 ghost use Rattle.run.specs.Rehearse.{runRecord, runTimes};
-ghost use Rattle.run.specs.Compare.{same, comparedOf};
+ghost use Rattle.run.specs.Compare.{same, comparedOf, comparedNumber, comparedPlace};
 
 // What comparing answers.
 pub enum Compared {
@@ -22,6 +22,36 @@ pub enum Compared {
     Done { acts: usize, end: u32, equal: bool },
     // The number of document 01's refusal table, and the byte place.
     Refused { number: u8, place: usize },
+}
+
+impl Compared {
+    // The refusal's number, 0 for none.
+    pub fn number(self) -> u8
+        ensures { λ r. ⌜ r ≡ comparedNumber self ⌝ }
+    {
+        match self {
+            Compared::Done {
+                acts: _,
+                end: _,
+                equal: _,
+            } => 0,
+            Compared::Refused { number, place: _ } => number,
+        }
+    }
+
+    // The refusal's byte place, 0 for none.
+    pub fn place(self) -> usize
+        ensures { λ r. ⌜ r ≡ comparedPlace self ⌝ }
+    {
+        match self {
+            Compared::Done {
+                acts: _,
+                end: _,
+                equal: _,
+            } => 0,
+            Compared::Refused { number: _, place } => place,
+        }
+    }
 }
 
 // Whether the first numbers of two lists are the same.
@@ -66,6 +96,8 @@ pub fn compare(head: Head, plan: &[u8], rows: &mut [u16; 1365], times: &mut [u32
     ensures { λ r. ⌜ r ≡ comparedOf head (now (plan .entry)) ⌝ }
     ensures { λ r. ⌜ now (rows .exit) ≡ filled (translateOf head (now (plan .entry)) mostWords mostWords) (runRecord head (scheduleOf head (planOf (now (plan .entry))))) (now (rows .entry)) ⌝ }
     ensures { λ r. ⌜ now (times .exit) ≡ filled (translateOf head (now (plan .entry)) mostWords mostWords) (runTimes head (scheduleOf head (planOf (now (plan .entry))))) (now (times .entry)) ⌝ }
+    ensures { λ r. ⌜ comparedNumber r ≡ translationNumber head (now (plan .entry)) mostWords mostWords ⌝ }
+    ensures { λ r. ⌜ comparedPlace r ≡ translationPlace head (now (plan .entry)) ⌝ }
 {
     // Room for the words of every plan.
     let mut words = [0u16; MOST_WORDS];
@@ -82,10 +114,9 @@ pub fn compare(head: Head, plan: &[u8], rows: &mut [u16; 1365], times: &mut [u32
             end,
             equal: agrees(head.settings, plan, rows, acts),
         },
-        Rehearsed::Refused { number, place } => Compared::Refused { number, place },
-        Rehearsed::Short { count: _ } => Compared::Refused {
-            number: 10,
-            place: 0,
+        _ => Compared::Refused {
+            number: rehearsed.number(),
+            place: rehearsed.place(),
         },
     }
 }

@@ -1,5 +1,8 @@
 // A translated plan run on the head (demand 3).
 use head::state::Head;
+use schedule::BUFFER_SHORT;
+ghost use mathlib.Core.Path.{_≡_};
+ghost use Rattle.run.specs.Rehearse.{rehearsedNumber, rehearsedPlace};
 
 pub mod acts;
 pub mod compare;
@@ -23,4 +26,38 @@ pub enum Rehearsed {
     Short {
         count: usize,
     },
+}
+
+impl Rehearsed {
+    // The refusal's number, 0 for none.
+    pub fn number(self) -> u8
+        ensures { λ r. ⌜ r ≡ rehearsedNumber self ⌝ }
+    {
+        match self {
+            Rehearsed::Done {
+                head: _,
+                count: _,
+                end: _,
+                acts: _,
+            } => 0,
+            Rehearsed::Refused { number, place: _ } => number,
+            Rehearsed::Short { count: _ } => BUFFER_SHORT,
+        }
+    }
+
+    // The refusal's byte place, 0 for none.
+    pub fn place(self) -> usize
+        ensures { λ r. ⌜ r ≡ rehearsedPlace self ⌝ }
+    {
+        match self {
+            Rehearsed::Done {
+                head: _,
+                count: _,
+                end: _,
+                acts: _,
+            } => 0,
+            Rehearsed::Refused { number: _, place } => place,
+            Rehearsed::Short { count: _ } => 0,
+        }
+    }
 }

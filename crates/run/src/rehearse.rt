@@ -15,9 +15,9 @@ ghost use lib.Seq.{sets};
 ghost use Rattle.plan.specs.Stored.{planOf};
 ghost use Rattle.plan.specs.Rows.{rowsOf};
 ghost use Rattle.schedule.specs.Schedule.{Rising};
-ghost use Rattle.schedule.specs.Translate.{scheduleOf, filled, tickList, wordList};
+ghost use Rattle.schedule.specs.Translate.{scheduleOf, filled, tickList, wordList, translationNumber, translationPlace};
 ghost use Rattle.run.specs.Run.{next, headAfter, momentLog, logOf};
-ghost use Rattle.run.specs.Rehearse.{rehearseOf, translationOf, buffered, runOf, runRecord, runTimes, Fulfilled};
+ghost use Rattle.run.specs.Rehearse.{rehearseOf, translationOf, buffered, runOf, runRecord, runTimes, Fulfilled, rehearsedNumber, rehearsedPlace};
 
 // A head, and how many acts it has made.
 struct Ran {
@@ -92,6 +92,8 @@ pub fn rehearse(
     ensures { λ r. ⌜ now (rows .exit) ≡ filled (translationOf r) (runRecord head (scheduleOf head (planOf (now (plan .entry))))) (now (rows .entry)) ⌝ }
     ensures { λ r. ⌜ now (times .exit) ≡ filled (translationOf r) (runTimes head (scheduleOf head (planOf (now (plan .entry))))) (now (times .entry)) ⌝ }
     ensures { λ r. ⌜ Fulfilled head (now (plan .entry)) (now (words .exit)) (now (ticks .exit)) r ⌝ }
+    ensures { λ r. ⌜ rehearsedNumber r ≡ translationNumber head (now (plan .entry)) (length (now (words .entry))) (length (now (ticks .entry))) ⌝ }
+    ensures { λ r. ⌜ rehearsedPlace r ≡ translationPlace head (now (plan .entry)) ⌝ }
 {
     let answer = translate(head, plan, words, ticks);
     match answer {

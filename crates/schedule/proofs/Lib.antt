@@ -10,3 +10,4 @@ pub mod Laying
 pub mod OnePass
 pub mod Copying
 pub mod Translating
+pub mod Numbered

@@ -1,13 +1,13 @@
 -- Document 01, "Plans": what translation answers, and what it leaves in the two buffers.
 -- Assumes nothing.
 use Prim.Native.Nat.{ℕ, _*_}
-use mathlib.Core.Bool.{Bool, cond, _&&_}
+use mathlib.Core.Bool.{Bool, cond, not, _&&_}
 use mathlib.Core.List.{List, [], map, _++_}
 use lib.Dec.{leb, eqb}
 use lib.ListN.{length, take, drop}
 use Rattle.head.specs.Range.{inRange}
 use Rattle.head.specs.declared.state.Head.{Head}
-use Rattle.plan.specs.Stored.{Plan, orders, refused, mostOrders, planOf}
+use Rattle.plan.specs.Stored.{Plan, orders, refused, mostOrders, planOf, planNumber, planPlace}
 use Rattle.plan.specs.Words.{send, itemsOfAll}
 use Rattle.plan.specs.declared.encoding.Words.{Words}
 use Rattle.schedule.specs.Earliest.{atRest}
@@ -62,12 +62,23 @@ abbrev pub ticksFrom : Clock → List ℕ → List ℕ
 ticksFrom c ws = tickList (clockedFrom c (map send ws))
 
 -- The refusal's number of document 01, 0 for none, and its byte place.
-unfoldable pub translatedNumber : Translated → ℕ
+abbrev pub translatedNumber : Translated → ℕ
 translatedNumber (Done n e) = 0
 translatedNumber (Refused n p) = n
 translatedNumber (Short n) = 10
 
-unfoldable pub translatedPlace : Translated → ℕ
+abbrev pub translatedPlace : Translated → ℕ
 translatedPlace (Done n e) = 0
 translatedPlace (Refused n p) = p
 translatedPlace (Short n) = 0
+
+-- The same from the state, the plan and the buffers' lengths themselves, in order of checks; the place of 1 and 10 is 0.
+unfoldable pub translationNumber : Head → List ℕ → ℕ → ℕ → ℕ
+translationNumber s bs a b =
+    let count = length (scheduleOf s (planOf bs) .list) in
+    cond (not (fit s)) 1
+    (cond (not (eqb (planNumber (planOf bs)) 0)) (planNumber (planOf bs))
+    (cond (not (leb count a && leb count b)) 10 0))
+
+unfoldable pub translationPlace : Head → List ℕ → ℕ
+translationPlace s bs = cond (not (fit s)) 0 (planPlace (planOf bs))

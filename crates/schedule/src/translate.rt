@@ -1,4 +1,5 @@
 // A stored plan translated into timed words (document 01, "Plans").
+use crate::STATE_UNFIT;
 use crate::Translated;
 use crate::clock::Clock;
 use crate::put::put_order;
@@ -16,7 +17,7 @@ ghost use lib.Seq.{paste};
 ghost use Rattle.plan.specs.Stored.{ordersFrom, mostOrders, planOf};
 ghost use Rattle.schedule.specs.Clock.{Near};
 ghost use Rattle.schedule.specs.Filled.{laidOf, wordsLaid, ticksLaid, WhenDone};
-ghost use Rattle.schedule.specs.Translate.{fit, mostWords, translateOf, scheduleOf, filled, tickList, wordList};
+ghost use Rattle.schedule.specs.Translate.{fit, mostWords, translateOf, scheduleOf, filled, tickList, wordList, translatedNumber, translatedPlace, translationNumber, translationPlace};
 
 // The most words that a plan has: four for each order.
 pub const MOST_WORDS: usize = 4 * MOST_ORDERS;
@@ -85,10 +86,12 @@ pub fn translate(head: Head, plan: &[u8], words: &mut [u16], ticks: &mut [u32]) 
     ensures { λ r. ⌜ r ≡ translateOf head (now (plan .entry)) (length (now (words .entry))) (length (now (ticks .entry))) ⌝ }
     ensures { λ r. ⌜ now (words .exit) ≡ filled r (wordList (scheduleOf head (planOf (now (plan .entry))))) (now (words .entry)) ⌝ }
     ensures { λ r. ⌜ now (ticks .exit) ≡ filled r (tickList (scheduleOf head (planOf (now (plan .entry))))) (now (ticks .entry)) ⌝ }
+    ensures { λ r. ⌜ translatedNumber r ≡ translationNumber head (now (plan .entry)) (length (now (words .entry))) (length (now (ticks .entry))) ⌝ }
+    ensures { λ r. ⌜ translatedPlace r ≡ translationPlace head (now (plan .entry)) ⌝ }
 {
     if !is_fit(head) {
         return Translated::Refused {
-            number: 1,
+            number: STATE_UNFIT,
             place: 0,
         };
     }

@@ -59,7 +59,7 @@ module _ {bs : List ℕ} {s : Head} {r : Translated} (h : Answered bs s r) where
   of-refused e = answered ∙ rw e
 
   pub of-short : {n : ℕ} → r ≡ Short n → printedFor bs ≡ refusalLine 10 0
-  unfolding answerText translatedNumber translatedPlace
+  unfolding answerText
   of-short e = answered ∙ rw e
 
   module _ {n e : ℕ} (done : r ≡ Done n e) where

@@ -34,7 +34,7 @@ long c =
     let a = c .before .before .before .before .before .before .before .before .before .args in
     let zeros : List ℕ = replicate 1365 0 in
     let room = read-room (a .settings) (now (a .plan)) in
-    ap length (c .before .before .before .before .before .read-plan .ensures .1)
+    ap length (c .before .before .before .before .before .read-plan .ensures .1 .1 .1)
     ∙ front-long (readRecord (a .settings) (planOf (now (a .plan)))) zeros (rw (length-replicate {A = ℕ} 1365 0) room)
     ∙ length-replicate {A = ℕ} 1365 0
 
@@ -61,7 +61,7 @@ returns-2 c =
     let a = start .args in
     let read = c .before .before .before .before .before .before .read-plan .ensures in
     let is = sym (c .before .before .before .before .answer .given .1) ∙ read .0 in
-    agree-compared (a .settings) (planOf (now (a .plan))) (now (a .rows)) (a .acts) (start .pre .1) is (c .before .before .if1 .left) _ (read .1) (c .same-front .ensures)
+    agree-compared (a .settings) (planOf (now (a .plan))) (now (a .rows)) (a .acts) (start .pre .1) is (c .before .before .if1 .left) _ (read .1 .1 .1) (c .same-front .ensures)
 
 returns-3 : tie.Need-returns-3
 returns-3 c =

@@ -1,11 +1,12 @@
 -- `run::compare::compare` meets its contract: each way through the code is a law of `Comparison`.
 -- Assumes nothing.
 use mathlib.Core.Path.{_≡_}
+use mathlib.Core.Logic.{inl, inr}
 use Prim.Native.Nat.{ℕ}
 use native.Mathlib.Omega.{arith}
 use lib.ListN.{length, replicate, length-replicate}
 use Rattle.schedule.specs.Translate.{mostWords}
-use Rattle.run.proofs.Comparison.{way-acts, way-done, way-refused, way-short}
+use Rattle.run.proofs.Comparison.{way-acts, way-done, way-refused}
 use borrow.Author.Needs.{needs}
 use Rattle.run.proofs.compare.compare.Statement.{statement}
 use Rattle.run.proofs.compare.compare.Tie as tie
@@ -31,11 +32,11 @@ agrees-requires c κs =
     let few = way-acts _ _ _ _ _ _ zeros zeros (c .before .before .before .before .before .before .before .rehearse .ensures) (c .before .before .before .rehearsed .given .1) in
     (few, omega (arith, c .agrees-arg2 .given .0))
 
-enum-known-rehearsed-2 : tie.Need-enum-known-rehearsed-2
-enum-known-rehearsed-2 c = search needs
+number-requires : tie.Need-number-requires
+number-requires c κs = search needs
 
-enum-told : tie.Need-enum-told
-enum-told c = search needs
+place-requires : tie.Need-place-requires
+place-requires c κs = search needs
 
 returns : tie.Need-returns
 returns c =
@@ -43,11 +44,11 @@ returns c =
 
 returns-2 : tie.Need-returns-2
 returns-2 c =
-    way-refused _ _ _ _ _ _ zeros zeros (c .before .before .before .before .before .rehearse .ensures) (c .before .rehearsed2 .given .1)
-
-returns-3 : tie.Need-returns-3
-returns-3 c =
-    way-short _ _ _ _ _ _ zeros zeros (c .before .before .before .before .rehearse .ensures) (c .enum-told .given .1)
+    let other = c .before .before .match .keys2 in
+    way-refused _ _ _ _ _ _ zeros zeros (c .before .before .before .before .before .rehearse .ensures)
+    (λ h n e a is. elim (rw is at other) [ inl x ↦ omega arith | inr x ↦ omega arith ])
+    (c .before .number .ensures)
+    (c .place .ensures)
 
 pub compare-spec : {M : Type 1} → statement M
 compare-spec =
@@ -58,8 +59,7 @@ compare-spec =
     rehearse-requires
     enum-known-rehearsed
     agrees-requires
-    enum-known-rehearsed-2
-    enum-told
+    number-requires
+    place-requires
     returns
-    returns-2
-    returns-3)
+    returns-2)

@@ -5,6 +5,7 @@ use mathlib.Core.Path.{refl}
 use native.Mathlib.Omega.{arith}
 use denote.Ref.{now}
 use Rattle.schedule.proofs.Translating.{way-unfit, way-near, way-header, way-refused, way-few, way-short-words, way-short-ticks, way-done}
+use Rattle.schedule.proofs.Numbered.{promised}
 use borrow.Author.Needs.{needs}
 use Rattle.schedule.proofs.translate.translate.Statement.{statement}
 use Rattle.schedule.proofs.translate.translate.Tie as tie
@@ -13,13 +14,13 @@ is-fit-requires : tie.Need-is-fit-requires
 is-fit-requires c κs = search needs
 
 returns : tie.Need-returns
-returns c = way-unfit _ _ _ _ (c .before .is-fit .ensures) (c .if1 .taken)
+returns c = promised _ _ _ _ (way-unfit _ _ _ _ (c .before .is-fit .ensures) (c .if1 .taken))
 
 header-fault-requires : tie.Need-header-fault-requires
 header-fault-requires c κs = search needs
 
 returns-2 : tie.Need-returns-2
-returns-2 c = way-header _ _ _ _ (c .before .before .before .is-fit .ensures) (c .before .before .if1 .left) (c .before .header-fault .ensures) (c .if2 .taken)
+returns-2 c = promised _ _ _ _ (way-header _ _ _ _ (c .before .before .before .is-fit .ensures) (c .before .before .if1 .left) (c .before .header-fault .ensures) (c .if2 .taken))
 
 slice-aggregate-lay : tie.Need-slice-aggregate-lay
 slice-aggregate-lay c = search needs
@@ -46,7 +47,7 @@ returns-3 c =
     let whole = c .before .before .before .before .before .before .before .if2 .left in
     let lay = c .before .before .before .lay in
     let laid = rw (c .before .before .before .before .of .ensures) at (lay .ensures) in
-    way-refused _ _ _ _ fit passed header whole (laid .0) (λ n e is. elim (rw is at (c .match .keys2)) [ inl a ↦ omega arith | inr a ↦ omega arith ])
+    promised _ _ _ _ (way-refused _ _ _ _ fit passed header whole (laid .0) (λ n e is. elim (rw is at (c .match .keys2)) [ inl a ↦ omega arith | inr a ↦ omega arith ]))
 
 returns-4 : tie.Need-returns-4
 returns-4 c =
@@ -56,7 +57,7 @@ returns-4 c =
     let whole = c .before .before .before .before .before .before .before .before .before .before .if2 .left in
     let lay = c .before .before .before .before .before .before .lay in
     let laid = rw (c .before .before .before .before .before .before .before .of .ensures) at (lay .ensures) in
-    way-short-words _ _ _ _ fit passed header whole (laid .0) (c .before .before .laid .given .1) (c .if3 .taken)
+    promised _ _ _ _ (way-short-words _ _ _ _ fit passed header whole (laid .0) (c .before .before .laid .given .1) (c .if3 .taken))
 
 returns-5 : tie.Need-returns-5
 returns-5 c =
@@ -66,7 +67,7 @@ returns-5 c =
     let whole = c .before .before .before .before .before .before .before .before .before .before .before .if2 .left in
     let lay = c .before .before .before .before .before .before .before .lay in
     let laid = rw (c .before .before .before .before .before .before .before .before .of .ensures) at (lay .ensures) in
-    way-short-ticks _ _ _ _ fit passed header whole (laid .0) (c .before .before .before .laid .given .1) (c .before .if3 .left) (c .if4 .taken)
+    promised _ _ _ _ (way-short-ticks _ _ _ _ fit passed header whole (laid .0) (c .before .before .before .laid .given .1) (c .before .if3 .left) (c .if4 .taken))
 
 slice-aggregate-copy-out : tie.Need-slice-aggregate-copy-out
 slice-aggregate-copy-out c = search needs
@@ -102,7 +103,7 @@ returns-6 c =
     let laid = rw (c .before .before .before .before .before .before .before .before .before .before .before .before .before .before .before .before .before .of .ensures) at (lay .ensures) in
     let done = c .before .before .before .before .before .before .before .before .before .before .before .before .laid .given .1 in
     let own = rw done at (laid .1) in
-    way-done _ _ _ _ fit passed header whole (laid .0) done (c .before .before .before .before .before .before .before .before .before .before .if3 .left) (c .before .before .before .before .before .before .before .before .before .if4 .left) _ _ _ _ refl refl (own .0) (own .1) (c .before .before .before .before .copy-out .ensures .0) (c .before .before .before .before .copy-out .ensures .1)
+    promised _ _ _ _ (way-done _ _ _ _ fit passed header whole (laid .0) done (c .before .before .before .before .before .before .before .before .before .before .if3 .left) (c .before .before .before .before .before .before .before .before .before .if4 .left) _ _ _ _ refl refl (own .0) (own .1) (c .before .before .before .before .copy-out .ensures .0) (c .before .before .before .before .copy-out .ensures .1))
 
 pub translate-spec : {M : Type 1} → statement M
 translate-spec =
