@@ -13,7 +13,7 @@ in-word-requires-2 c κs = search needs
 
 returns : tie.Need-returns
 unfolding ccdSaid
-returns c = cc
+returns c = rw (c .in-word2 .ensures, c .before .in-word .ensures)
 
 pub said-spec : {M : Type 1} → statement M
 said-spec = tie.close (tie.spec in-word-requires in-word-requires-2 returns)

@@ -1,5 +1,6 @@
 -- `blocks::ccd::write_ccd` meets its contract.
 -- Assumes nothing.
+use mathlib.Core.Path.{_∙_}
 use Rattle.blocks.specs.Written.{writtenOf}
 use Rattle.blocks.specs.Ccd.{ccdBlockOf}
 use Rattle.blocks.proofs.Writing.{written-by}
@@ -30,7 +31,10 @@ same-length c = search needs
 
 returns : tie.Need-returns
 unfolding ccdBlockOf writtenOf
-returns c = (search (needs, written-by 16 9, slice-aggregate-write-block), cc)
+returns c =
+    let at-block = c .before .before in
+    let at-status = at-block .before .before .before .before .before in
+    (search (needs, written-by 16 9, slice-aggregate-write-block), at-block .write-block .ensures .1 ∙ rw (at-status .status .ensures, at-status .before .shown .ensures))
 
 pub write-ccd-spec : {M : Type 1} → statement M
 write-ccd-spec =

@@ -1,6 +1,22 @@
 -- `blocks::due::write_due` meets its contract.
 -- Assumes nothing.
-use Rattle.blocks.specs.Due.{dueWrittenOf, irDueAfter, ccdDueAfter}
+use Prim.Native.Nat.{ℕ}
+use mathlib.Core.Bool.{Bool}
+use mathlib.Core.List.{List}
+use mathlib.Core.Path.{_≡_, ap, _∙_}
+use Rattle.head.specs.declared.state.Head.{Head}
+use Rattle.head.specs.declared.state.Flags.{Flags}
+use Rattle.head.specs.declared.state.Task.{Task}
+use Rattle.head.specs.declared.tick.Due.{Due}
+use Rattle.head.specs.declared.tick.Due.the-variants as due
+use Rattle.blocks.specs.Written.{bufferAfter}
+use Rattle.blocks.specs.Ir.{irBlockOf}
+use Rattle.blocks.specs.Ccd.{ccdBlockOf}
+use Rattle.blocks.specs.declared.written.Written.{Written}
+use Rattle.blocks.specs.declared.ir.IrBits.{IrBits}
+use Rattle.blocks.specs.declared.ccd.CcdBits.{CcdBits}
+use Rattle.blocks.specs.declared.due.DueWritten.the-variants.{Blocks}
+use Rattle.blocks.specs.Due.{acquisition, bothWrittenOf, dueWrittenOf, irDueAfter, ccdDueAfter}
 use borrow.Author.Needs.{needs}
 use Rattle.blocks.proofs.due.write_due.Statement.{statement}
 use Rattle.blocks.proofs.due.write_due.Tie as tie
@@ -30,12 +46,29 @@ same-length c = search needs
 same-length-2 : tie.Need-same-length-2
 same-length-2 c = search needs
 
+module _ (s : Head) (d : Due) (ended : Task) (flags : Flags) (acquired : Bool) (w : Written) (ir ccd : List ℕ) (told : d ≡ due.Blocks ended flags) (first : acquired ≡ acquisition ended) (both : w ≡ bothWrittenOf s ir ccd) where
+  blocks-due : Blocks w ≡ dueWrittenOf s d ir ccd
+  unfolding dueWrittenOf
+  blocks-due = rw told (ap Blocks both)
+
+  ir-due : (after readings : List ℕ) (bits : IrBits) → after ≡ bufferAfter w (irBlockOf s flags acquired readings bits) ir → after ≡ irDueAfter s d readings bits ir ccd
+  unfolding irDueAfter
+  ir-due after readings bits h = rw told (h ∙ rw (both, first))
+
+  ccd-due : (after readings : List ℕ) (bits : CcdBits) → after ≡ bufferAfter w (ccdBlockOf s flags acquired readings bits) ccd → after ≡ ccdDueAfter s d readings bits ir ccd
+  unfolding ccdDueAfter
+  ccd-due after readings bits h = rw told (h ∙ rw (both, first))
+
 returns-2 : tie.Need-returns-2
-unfolding dueWrittenOf irDueAfter ccdDueAfter
 returns-2 c =
-    let at-due = c .before .before .before .before .before .before .before .before .before in
-    let told = at-due .due .given .1 in
-    (rw told (cc), (rw told (cc), rw told (cc)))
+    let at-both = c .before .before .before .before in
+    let at-acquisition = at-both .before .before .before in
+    let told = at-acquisition .before .before .due .given .1 in
+    let first = at-acquisition .is-acquisition .ensures in
+    let wrote = at-both .write-both .ensures in (
+      blocks-due _ _ _ _ _ _ _ _ told first (wrote .0),
+      (ir-due _ _ _ _ _ _ _ _ told first (wrote .0) _ _ _ (wrote .1 .0), ccd-due _ _ _ _ _ _ _ _ told first (wrote .0) _ _ _ (wrote .1 .1)),
+    )
 
 returns-3 : tie.Need-returns-3
 unfolding dueWrittenOf irDueAfter ccdDueAfter

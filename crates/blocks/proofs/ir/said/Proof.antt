@@ -16,7 +16,7 @@ in-word-requires-2 c κs = search needs
 
 returns : tie.Need-returns
 unfolding irSaid
-returns c = cc
+returns c = rw (c .in-word2 .ensures, c .before .in-word .ensures, c .before .before .choose .ensures)
 
 pub said-spec : {M : Type 1} → statement M
 said-spec = tie.close (tie.spec choose-requires in-word-requires in-word-requires-2 returns)

@@ -10,7 +10,7 @@ in-word-requires c κs = search needs
 
 returns : tie.Need-returns
 unfolding ccdShown
-returns c = cc
+returns c = rw (c .before .in-word .ensures)
 
 pub shown-spec : {M : Type 1} → statement M
 shown-spec = tie.close (tie.spec in-word-requires returns)

@@ -13,7 +13,7 @@ word-requires-2 c κs = search needs
 
 returns : tie.Need-returns
 unfolding ccdStatus
-returns c = cc
+returns c = rw (c .word2 .ensures, c .before .word .ensures)
 
 pub status-spec : {M : Type 1} → statement M
 status-spec = tie.close (tie.spec word-requires word-requires-2 returns)

@@ -19,7 +19,7 @@ word-requires-2 c κs = search needs
 
 returns : tie.Need-returns
 unfolding irStatus
-returns c = cc
+returns c = rw (c .word2 .ensures, c .before .word .ensures, c .before .before .choose2 .ensures, c .before .before .before .choose .ensures)
 
 pub status-spec : {M : Type 1} → statement M
 status-spec =

@@ -13,7 +13,7 @@ word-requires c κs = search needs
 
 returns : tie.Need-returns
 unfolding visFlagsRight
-returns c = cc
+returns c = rw (c .word .ensures, c .before .in-word .ensures)
 
 pub right-spec : {M : Type 1} → statement M
 right-spec = tie.close (tie.spec in-word-requires word-requires returns)
