@@ -3,7 +3,7 @@
 use crate::buffer::{difference, Buffer};
 use crate::random::Random;
 use crate::reduce::{failure, Case, Counted};
-use crate::sides::{Library, Paper, Shown, Side};
+use crate::sides::{Functions, Shown, Sides};
 use crate::states;
 use shabgozim::{CCD_LENGTH, CCD_MEANING_LENGTH, CCD_READINGS};
 use shabgozim::{IR_LENGTH, IR_MEANING_LENGTH, IR_READINGS};
@@ -75,11 +75,11 @@ impl WriteCase {
         }
     }
 
-    fn write<S: Side>(&self, buffer: &mut Buffer<u16>) -> u32 {
+    fn write(&self, side: &Functions, buffer: &mut Buffer<u16>) -> u32 {
         buffer.refill(FILL, self.room);
         let write = match self.block {
-            Block::Ir => S::write_ir,
-            Block::Ccd => S::write_ccd,
+            Block::Ir => side.write_ir,
+            Block::Ccd => side.write_ccd,
         };
         write(&self.state, self.shown, &self.readings, buffer.lent())
     }
@@ -94,11 +94,11 @@ impl ReadCase {
         }
     }
 
-    fn read<S: Side>(&self, buffer: &mut Buffer<u16>) -> u32 {
+    fn read(&self, side: &Functions, buffer: &mut Buffer<u16>) -> u32 {
         buffer.refill(FILL, self.room);
         let read = match self.block {
-            Block::Ir => S::read_ir,
-            Block::Ccd => S::read_ccd,
+            Block::Ir => side.read_ir,
+            Block::Ccd => side.read_ccd,
         };
         read(&self.words, buffer.lent())
     }
@@ -106,50 +106,55 @@ impl ReadCase {
 
 /// Either case, given to a side with a buffer to write to.
 trait BlockCase: Case + Clone {
-    fn give<S: Side>(&self, buffer: &mut Buffer<u16>) -> u32;
+    fn give(&self, side: &Functions, buffer: &mut Buffer<u16>) -> u32;
 }
 
 impl BlockCase for WriteCase {
-    fn give<S: Side>(&self, buffer: &mut Buffer<u16>) -> u32 {
-        self.write::<S>(buffer)
+    fn give(&self, side: &Functions, buffer: &mut Buffer<u16>) -> u32 {
+        self.write(side, buffer)
     }
 }
 
 impl BlockCase for ReadCase {
-    fn give<S: Side>(&self, buffer: &mut Buffer<u16>) -> u32 {
-        self.read::<S>(buffer)
+    fn give(&self, side: &Functions, buffer: &mut Buffer<u16>) -> u32 {
+        self.read(side, buffer)
     }
 }
 
 /// The buffers of both sides, used again.
 struct Pair {
+    sides: Sides,
     library: Buffer<u16>,
     paper: Buffer<u16>,
 }
 
 impl Pair {
-    fn new() -> Pair {
+    fn new(sides: &Sides) -> Pair {
         Pair {
+            sides: *sides,
             library: Buffer::filled(ROOM, FILL),
             paper: Buffer::filled(ROOM, FILL),
         }
     }
 
+    fn answers<C: BlockCase>(&mut self, case: &C) -> (u32, u32) {
+        let answer = case.give(&self.sides.library, &mut self.library);
+        (answer, case.give(&self.sides.paper, &mut self.paper))
+    }
+
     /// Compares the answers and every place of the buffer.
     fn compare<C: BlockCase>(&mut self, case: &C) -> Counted {
-        let answer = case.give::<Library>(&mut self.library);
-        let expected = case.give::<Paper>(&mut self.paper);
+        let (answer, expected) = self.answers(case);
         match answer == expected && self.library == self.paper {
             true => Ok(1),
-            false => Err(failure(case.clone())),
+            false => Err(failure(&self.sides, case.clone())),
         }
     }
 }
 
-fn difference_of<C: BlockCase>(case: &C) -> Option<String> {
-    let mut pair = Pair::new();
-    let answer = case.give::<Library>(&mut pair.library);
-    let expected = case.give::<Paper>(&mut pair.paper);
+fn difference_of<C: BlockCase>(case: &C, sides: &Sides) -> Option<String> {
+    let mut pair = Pair::new(sides);
+    let (answer, expected) = pair.answers(case);
     if answer != expected {
         return Some(format!("answer: library {answer:#X}, paper {expected:#X}"));
     }
@@ -157,8 +162,8 @@ fn difference_of<C: BlockCase>(case: &C) -> Option<String> {
 }
 
 impl Case for WriteCase {
-    fn difference(&self) -> Option<String> {
-        difference_of(self)
+    fn difference(&self, sides: &Sides) -> Option<String> {
+        difference_of(self, sides)
     }
 
     fn shorter(&self) -> Vec<WriteCase> {
@@ -182,8 +187,8 @@ impl Case for WriteCase {
 }
 
 impl Case for ReadCase {
-    fn difference(&self) -> Option<String> {
-        difference_of(self)
+    fn difference(&self, sides: &Sides) -> Option<String> {
+        difference_of(self, sides)
     }
 
     fn shorter(&self) -> Vec<ReadCase> {
@@ -237,8 +242,8 @@ fn any_shown(random: &mut Random) -> Shown {
 }
 
 /// States of every sort, with every combination of flags and bits.
-pub fn written(random: &mut Random, times: u32) -> Counted {
-    let mut pair = Pair::new();
+pub fn written(sides: &Sides, random: &mut Random, times: u32) -> Counted {
+    let mut pair = Pair::new(sides);
     let mut count = 0;
     for block in Block::BOTH {
         for state in states::at_limits(&states::power_on()) {
@@ -270,15 +275,15 @@ fn every_shown(pair: &mut Pair, random: &mut Random, block: Block) -> Counted {
 
 /// Written blocks, with each word at every value, each bit changed, and
 /// several words damaged.
-pub fn read(random: &mut Random, times: u32) -> Counted {
-    let mut pair = Pair::new();
+pub fn read(sides: &Sides, random: &mut Random, times: u32) -> Counted {
+    let mut pair = Pair::new(sides);
     let mut count = 0;
     for block in Block::BOTH {
         for _ in 0..times {
-            count += every_value(&mut pair, &right_block(random, block))?;
+            count += every_value(&mut pair, &right_block(sides, random, block))?;
         }
         for _ in 0..5_000 * times {
-            let right = right_block(random, block);
+            let right = right_block(sides, random, block);
             count += pair.compare(&right)?;
             count += each_bit(&mut pair, &right)?;
             count += several_words(&mut pair, random, &right)?;
@@ -288,10 +293,10 @@ pub fn read(random: &mut Random, times: u32) -> Counted {
 }
 
 /// A block as it is written from a state in range.
-fn right_block(random: &mut Random, block: Block) -> ReadCase {
+fn right_block(sides: &Sides, random: &mut Random, block: Block) -> ReadCase {
     let state = states::in_range(random);
     let mut buffer = Buffer::filled(ROOM, FILL);
-    WriteCase::random(random, block, &state).write::<Paper>(&mut buffer);
+    WriteCase::random(random, block, &state).write(&sides.paper, &mut buffer);
     ReadCase::new(block, buffer.values())
 }
 
@@ -334,8 +339,8 @@ fn several_words(pair: &mut Pair, random: &mut Random, right: &ReadCase) -> Coun
 }
 
 /// Every length of every slice, right and wrong.
-pub fn lengths(random: &mut Random, times: u32) -> Counted {
-    let mut pair = Pair::new();
+pub fn lengths(sides: &Sides, random: &mut Random, times: u32) -> Counted {
+    let mut pair = Pair::new(sides);
     let mut count = 0;
     for block in Block::BOTH {
         for _ in 0..times {
@@ -357,7 +362,7 @@ fn two_lengths(
     first: usize,
     second: usize,
 ) -> Counted {
-    let mut read = right_block(random, block);
+    let mut read = right_block(&pair.sides, random, block);
     read.words.resize(first, 0);
     read.room = second;
     let mut count = pair.compare(&read)?;

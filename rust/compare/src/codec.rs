@@ -2,7 +2,7 @@
 
 use crate::random::Random;
 use crate::reduce::{failure, Case, Counted, Failure};
-use crate::sides::{Library, Paper, Side};
+use crate::sides::{Functions, Sides};
 use std::fmt;
 
 const ALLOWED_WORDS: usize = 9133;
@@ -13,17 +13,25 @@ enum CodecCase {
 }
 
 impl CodecCase {
-    fn answer<S: Side>(&self) -> u32 {
+    fn answer(&self, side: &Functions) -> u32 {
         match *self {
-            CodecCase::Decode(word) => S::decode(word),
-            CodecCase::Encode(kind, data) => S::encode(kind, data),
+            CodecCase::Decode(word) => (side.decode)(word),
+            CodecCase::Encode(kind, data) => (side.encode)(kind, data),
+        }
+    }
+
+    /// Compares the answers.
+    fn compare(self, sides: &Sides) -> Result<(), Failure> {
+        match self.answer(&sides.library) == self.answer(&sides.paper) {
+            true => Ok(()),
+            false => Err(failure(sides, self)),
         }
     }
 }
 
 impl Case for CodecCase {
-    fn difference(&self) -> Option<String> {
-        let (answer, expected) = (self.answer::<Library>(), self.answer::<Paper>());
+    fn difference(&self, sides: &Sides) -> Option<String> {
+        let (answer, expected) = (self.answer(&sides.library), self.answer(&sides.paper));
         let text = format!("answer: library {answer:#X}, paper {expected:#X}");
         (answer != expected).then_some(text)
     }
@@ -42,23 +50,19 @@ impl fmt::Display for CodecCase {
     }
 }
 
-pub fn decode_all(_: &mut Random, _: u32) -> Counted {
+pub fn decode_all(sides: &Sides, _: &mut Random, _: u32) -> Counted {
     for word in 0..=u16::MAX {
-        if Library::decode(word) != Paper::decode(word) {
-            return Err(failure(CodecCase::Decode(word)));
-        }
+        CodecCase::Decode(word).compare(sides)?;
         unpacked_alike(word)?;
     }
-    right_number_of_words()?;
+    right_number_of_words(&sides.library)?;
     Ok(1 << 16)
 }
 
-pub fn encode_all(_: &mut Random, _: u32) -> Counted {
+pub fn encode_all(sides: &Sides, _: &mut Random, _: u32) -> Counted {
     for kind in 0..=u8::MAX {
         for data in 0..=u16::MAX {
-            if Library::encode(kind, data) != Paper::encode(kind, data) {
-                return Err(failure(CodecCase::Encode(kind, data)));
-            }
+            CodecCase::Encode(kind, data).compare(sides)?;
         }
     }
     Ok(1 << 24)
@@ -87,8 +91,8 @@ fn unpacked_alike(word: u16) -> Result<(), Failure> {
     Err(Failure(text))
 }
 
-fn right_number_of_words() -> Result<(), Failure> {
-    let allowed = (0..=u16::MAX).filter(|&word| Library::decode(word) >> 24 == 0);
+fn right_number_of_words(library: &Functions) -> Result<(), Failure> {
+    let allowed = (0..=u16::MAX).filter(|&word| (library.decode)(word) >> 24 == 0);
     let count = allowed.count();
     match count {
         ALLOWED_WORDS => Ok(()),

@@ -6,6 +6,7 @@
 
 use compare::random::Random;
 use compare::reduce::{Counted, Failure};
+use compare::sides::Sides;
 use compare::{blocks, codec, demand3, plans, steps, unpacked};
 use std::process::ExitCode;
 use std::time::{Instant, SystemTime, UNIX_EPOCH};
@@ -13,7 +14,7 @@ use std::time::{Instant, SystemTime, UNIX_EPOCH};
 /// How much of the random comparisons a long run makes.
 const LONG: u32 = 40;
 
-type Part = (&'static str, fn(&mut Random, u32) -> Counted);
+type Part = (&'static str, fn(&Sides, &mut Random, u32) -> Counted);
 
 const PARTS: &[Part] = &[
     ("decode", codec::decode_all),
@@ -86,7 +87,7 @@ fn all_parts(options: &Options) -> Result<(), Failure> {
         }
         let started = Instant::now();
         let mut random = Random::new(options.seed.wrapping_add((index as u64) << 48));
-        let count = part(&mut random, options.times)?;
+        let count = part(&Sides::LIBRARY_AND_PAPER, &mut random, options.times)?;
         total += count;
         print_count(name, count, started);
     }

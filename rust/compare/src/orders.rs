@@ -134,6 +134,12 @@ pub fn random_plan(random: &mut Random) -> Vec<u8> {
     plan(&random_orders(random, count))
 }
 
+/// A plan by its bytes.
+pub fn describe(plan: &[u8]) -> String {
+    let bytes = plan.iter().map(|byte| format!(" {byte:02X}"));
+    format!("plan{}", bytes.collect::<String>())
+}
+
 /// Where each order of a plan stands, as far as its lengths lead.
 fn places(plan: &[u8]) -> Vec<std::ops::Range<usize>> {
     let mut places = Vec::new();

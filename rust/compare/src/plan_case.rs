@@ -2,8 +2,9 @@
 
 use crate::buffer::{difference, Buffer};
 use crate::orders;
+use crate::plan_answer::PlanAnswer;
 use crate::reduce::{failure, Case, Counted};
-use crate::sides::{Library, Paper, Side};
+use crate::sides::{Functions, Sides};
 use crate::states;
 use std::fmt;
 
@@ -30,6 +31,7 @@ struct Lists {
 
 /// Translates on both sides, into buffers that are used again.
 pub struct Translator {
+    sides: Sides,
     library: Lists,
     paper: Lists,
 }
@@ -42,10 +44,10 @@ impl Lists {
         }
     }
 
-    fn translate<S: Side>(&mut self, case: &PlanCase) -> u64 {
+    fn translate(&mut self, side: &Functions, case: &PlanCase) -> u64 {
         self.words.refill(NO_WORD, case.words);
         self.ticks.refill(NO_TICK, case.ticks);
-        S::translate(
+        (side.translate)(
             &case.state,
             &case.plan,
             self.words.lent(),
@@ -55,16 +57,17 @@ impl Lists {
 }
 
 impl Translator {
-    pub fn new() -> Translator {
+    pub fn new(sides: &Sides) -> Translator {
         Translator {
+            sides: *sides,
             library: Lists::new(),
             paper: Lists::new(),
         }
     }
 
     pub fn answers(&mut self, case: &PlanCase) -> (u64, u64) {
-        let answer = self.library.translate::<Library>(case);
-        (answer, self.paper.translate::<Paper>(case))
+        let answer = self.library.translate(&self.sides.library, case);
+        (answer, self.paper.translate(&self.sides.paper, case))
     }
 
     /// Compares the answers and every place of both buffers.
@@ -75,7 +78,7 @@ impl Translator {
             && self.library.ticks == self.paper.ticks;
         match alike {
             true => Ok(1),
-            false => Err(failure(case.clone())),
+            false => Err(failure(&self.sides, case.clone())),
         }
     }
 }
@@ -111,17 +114,14 @@ impl PlanCase {
 }
 
 impl Case for PlanCase {
-    fn difference(&self) -> Option<String> {
-        let mut translator = Translator::new();
+    fn difference(&self, sides: &Sides) -> Option<String> {
+        let mut translator = Translator::new(sides);
         let (answer, expected) = translator.answers(self);
         if answer != expected {
-            return Some(format!(
-                "answer: library {}, paper {}",
-                unpacked(answer),
-                unpacked(expected)
-            ));
+            let (answer, expected) = (PlanAnswer::of(answer), PlanAnswer::of(expected));
+            return Some(format!("answer: library {answer}, paper {expected}"));
         }
-        let Translator { library, paper } = translator;
+        let Translator { library, paper, .. } = translator;
         difference("words", &library.words, &paper.words).or(difference(
             "ticks",
             &library.ticks,
@@ -144,17 +144,9 @@ impl Case for PlanCase {
 
 impl fmt::Display for PlanCase {
     fn fmt(&self, out: &mut fmt::Formatter) -> fmt::Result {
-        write!(out, "plan")?;
-        self.plan
-            .iter()
-            .try_for_each(|byte| write!(out, " {byte:02X}"))?;
-        writeln!(out, "\nfrom {}", states::describe(&self.state))?;
+        writeln!(out, "{}", orders::describe(&self.plan))?;
+        writeln!(out, "from {}", states::describe(&self.state))?;
         let (words, ticks) = (self.words, self.ticks);
         write!(out, "with room for {words} words and {ticks} ticks")
     }
-}
-
-fn unpacked(answer: u64) -> String {
-    let (number, count, last) = (answer as u8, (answer >> 8) as u32 & 0xFF_FFFF, answer >> 32);
-    format!("number {number}, count {count}, end or place {last}")
 }

@@ -1,9 +1,11 @@
 //! Translation of plans: valid, at every limit, and damaged.
 
 use crate::orders::{self, random_orders, random_plan, Order, FIELDS, FIRST_PLACE, MOST_ORDERS};
+use crate::plan_answer::PlanAnswer;
 use crate::plan_case::{PlanCase, Translator, ROOM};
 use crate::random::Random;
 use crate::reduce::Counted;
+use crate::sides::Sides;
 use crate::states;
 
 fn power_on_or_idle(random: &mut Random) -> states::Numbers {
@@ -14,8 +16,8 @@ fn power_on_or_idle(random: &mut Random) -> states::Numbers {
 }
 
 /// Every value of every field of every code.
-pub fn fields(random: &mut Random, times: u32) -> Counted {
-    let mut translator = Translator::new();
+pub fn fields(sides: &Sides, random: &mut Random, times: u32) -> Counted {
+    let mut translator = Translator::new(sides);
     let mut count = 0;
     for _ in 0..times {
         for (code, fields) in (1..).zip(FIELDS) {
@@ -62,8 +64,8 @@ fn every_window(translator: &mut Translator, random: &mut Random) -> Counted {
 
 /// Plans of every short form, of every length and code byte, of as many
 /// orders as may be and more, and very long ones.
-pub fn forms(random: &mut Random, times: u32) -> Counted {
-    let mut translator = Translator::new();
+pub fn forms(sides: &Sides, random: &mut Random, times: u32) -> Counted {
+    let mut translator = Translator::new(sides);
     let mut count = short_plans(&mut translator)?;
     for _ in 0..times {
         count += every_length_and_code(&mut translator, random)?;
@@ -162,12 +164,12 @@ fn every_buffer_length(translator: &mut Translator, random: &mut Random) -> Coun
 /// How many words the plan has; 0 where it is refused.
 fn words_of(translator: &mut Translator, case: &PlanCase) -> usize {
     let (_, expected) = translator.answers(case);
-    usize::from((expected >> 8) as u16)
+    PlanAnswer::of(expected).count
 }
 
 /// Valid plans with each byte changed, left out or doubled, and each part.
-pub fn damaged(random: &mut Random, times: u32) -> Counted {
-    let mut translator = Translator::new();
+pub fn damaged(sides: &Sides, random: &mut Random, times: u32) -> Counted {
+    let mut translator = Translator::new(sides);
     let mut count = 0;
     for _ in 0..2000 * times {
         let state = power_on_or_idle(random);
@@ -228,8 +230,8 @@ fn each_part(translator: &mut Translator, case: &PlanCase) -> Counted {
 }
 
 /// States, plans and buffer lengths of every sort together.
-pub fn mixed(random: &mut Random, times: u32) -> Counted {
-    let mut translator = Translator::new();
+pub fn mixed(sides: &Sides, random: &mut Random, times: u32) -> Counted {
+    let mut translator = Translator::new(sides);
     let mut count = 0;
     for state in states::at_limits(&states::power_on()) {
         for _ in 0..20 {

@@ -3,7 +3,7 @@
 use crate::buffer::{difference, Buffer};
 use crate::random::Random;
 use crate::reduce::{failure, Case, Counted};
-use crate::sides::{Library, Paper, Side};
+use crate::sides::{Functions, Sides};
 use crate::states;
 use crate::words::Words;
 use shabgozim::{place, STATE_LENGTH};
@@ -11,6 +11,8 @@ use std::fmt;
 
 const MARGIN: u16 = 0xAAAA;
 const LONGEST_STATE: usize = 2 * STATE_LENGTH + 2;
+/// How many steps a run has.
+const RUN_LENGTH: u64 = 4000;
 
 /// One call over a state.
 #[derive(Clone, Copy, Debug, PartialEq, Eq)]
@@ -29,17 +31,18 @@ struct StepCase {
 
 /// The same state lent to each side.
 struct Pair {
+    sides: Sides,
     library: Buffer<u16>,
     paper: Buffer<u16>,
 }
 
 impl Step {
-    fn make<S: Side>(self, state: &mut [u16]) -> u32 {
+    fn make(self, side: &Functions, state: &mut [u16]) -> u32 {
         match self {
-            Step::PowerOn => S::power_on(state),
-            Step::InRange => S::in_range(state),
-            Step::Word(word) => S::word(state, word),
-            Step::Tick => S::tick(state),
+            Step::PowerOn => (side.power_on)(state),
+            Step::InRange => (side.in_range)(state),
+            Step::Word(word) => (side.word)(state, word),
+            Step::Tick => (side.tick)(state),
         }
     }
 
@@ -56,10 +59,14 @@ impl Step {
 }
 
 impl Pair {
-    fn of(state: &[u16]) -> Pair {
+    fn of(sides: &Sides, state: &[u16]) -> Pair {
         let library = Buffer::holding(state, MARGIN);
         let paper = library.clone();
-        Pair { library, paper }
+        Pair {
+            sides: *sides,
+            library,
+            paper,
+        }
     }
 
     fn reset(&mut self, state: &Buffer<u16>) {
@@ -67,19 +74,23 @@ impl Pair {
         self.paper.copy_from(state);
     }
 
+    /// Makes the step on both sides; gives both answers.
+    fn answers(&mut self, step: Step) -> (u32, u32) {
+        let answer = step.make(&self.sides.library, self.library.lent());
+        (answer, step.make(&self.sides.paper, self.paper.lent()))
+    }
+
     /// Makes the step on both sides; whether answer and every place agree.
     fn agree(&mut self, step: Step) -> bool {
-        let answer = step.make::<Library>(self.library.lent());
-        let expected = step.make::<Paper>(self.paper.lent());
+        let (answer, expected) = self.answers(step);
         answer == expected && self.library == self.paper
     }
 }
 
 impl Case for StepCase {
-    fn difference(&self) -> Option<String> {
-        let mut pair = Pair::of(&self.state);
-        let answer = self.step.make::<Library>(pair.library.lent());
-        let expected = self.step.make::<Paper>(pair.paper.lent());
+    fn difference(&self, sides: &Sides) -> Option<String> {
+        let mut pair = Pair::of(sides, &self.state);
+        let (answer, expected) = pair.answers(self.step);
         if answer != expected {
             return Some(format!("answer: library {answer:#X}, paper {expected:#X}"));
         }
@@ -110,15 +121,15 @@ impl fmt::Display for StepCase {
 }
 
 /// Compares some steps, each from the same state.
-fn steps_from(state: &[u16], steps: impl Iterator<Item = Step>) -> Counted {
+fn steps_from(sides: &Sides, state: &[u16], steps: impl Iterator<Item = Step>) -> Counted {
     let given = Buffer::holding(state, MARGIN);
-    let mut pair = Pair::of(state);
+    let mut pair = Pair::of(sides, state);
     let mut count = 0;
     for step in steps {
         pair.reset(&given);
         if !pair.agree(step) {
             let state = state.to_vec();
-            return Err(failure(StepCase { state, step }));
+            return Err(failure(sides, StepCase { state, step }));
         }
         count += 1;
     }
@@ -130,21 +141,21 @@ fn all_words() -> impl Iterator<Item = Step> {
 }
 
 /// All words from every limit and from many states of each sort.
-pub fn words_from_states(random: &mut Random, times: u32) -> Counted {
+pub fn words_from_states(sides: &Sides, random: &mut Random, times: u32) -> Counted {
     let mut count = 0;
     for state in states::at_limits(&states::power_on()) {
-        count += steps_from(&state, all_words())?;
+        count += steps_from(sides, &state, all_words())?;
     }
     for _ in 0..times {
         for state in states::at_limits(&states::in_range(random)) {
-            count += steps_from(&state, words_of_each_kind(random).into_iter())?;
+            count += steps_from(sides, &state, words_of_each_kind(random).into_iter())?;
         }
         for _ in 0..150 {
-            count += steps_from(&states::in_range(random), all_words())?;
+            count += steps_from(sides, &states::in_range(random), all_words())?;
         }
         for _ in 0..20 {
-            count += steps_from(&states::damaged(random), all_words())?;
-            count += steps_from(&states::arbitrary(random), all_words())?;
+            count += steps_from(sides, &states::damaged(random), all_words())?;
+            count += steps_from(sides, &states::arbitrary(random), all_words())?;
         }
     }
     Ok(count)
@@ -158,50 +169,50 @@ fn words_of_each_kind(random: &mut Random) -> Vec<Step> {
 }
 
 /// Range, tick and power-on with every number at every place.
-pub fn every_number(random: &mut Random, times: u32) -> Counted {
+pub fn every_number(sides: &Sides, random: &mut Random, times: u32) -> Counted {
     let mut count = 0;
     let mut bases = vec![states::power_on()];
     bases.extend((0..2 * times).map(|_| states::in_range(random)));
     for base in bases {
         for place in 0..STATE_LENGTH {
-            count += every_number_at(&base, place)?;
+            count += every_number_at(sides, &base, place)?;
         }
     }
     Ok(count)
 }
 
-fn every_number_at(base: &states::Numbers, place: usize) -> Counted {
+fn every_number_at(sides: &Sides, base: &states::Numbers, place: usize) -> Counted {
     let mut state = *base;
     let mut count = 0;
     for number in 0..=u16::MAX {
         state[place] = number;
-        count += steps_from(&state, [Step::InRange, Step::Tick].into_iter())?;
+        count += steps_from(sides, &state, [Step::InRange, Step::Tick].into_iter())?;
     }
-    count += steps_from(&state, [Step::PowerOn].into_iter())?;
+    count += steps_from(sides, &state, [Step::PowerOn].into_iter())?;
     Ok(count)
 }
 
 /// States of every length, right and wrong.
-pub fn state_lengths(random: &mut Random, times: u32) -> Counted {
+pub fn state_lengths(sides: &Sides, random: &mut Random, times: u32) -> Counted {
     let mut count = 0;
     for _ in 0..200 * times {
         for length in 0..=LONGEST_STATE {
-            count += state_of_length(random, length)?;
+            count += state_of_length(sides, random, length)?;
         }
     }
     Ok(count)
 }
 
-fn state_of_length(random: &mut Random, length: usize) -> Counted {
+fn state_of_length(sides: &Sides, random: &mut Random, length: usize) -> Counted {
     let numbers = states::any(random);
     let state: Vec<u16> = numbers.into_iter().cycle().take(length).collect();
     let word = Step::Word(random.number());
     let steps = [Step::PowerOn, Step::InRange, word, Step::Tick];
-    steps_from(&state, steps.into_iter())
+    steps_from(sides, &state, steps.into_iter())
 }
 
 /// Long runs of words and ticks, each step compared.
-pub fn runs(random: &mut Random, times: u32) -> Counted {
+pub fn runs(sides: &Sides, random: &mut Random, times: u32) -> Counted {
     let words = Words::new();
     let mut count = 0;
     for _ in 0..4000 * times {
@@ -209,24 +220,23 @@ pub fn runs(random: &mut Random, times: u32) -> Counted {
             0 => states::power_on(),
             _ => states::in_range(random),
         };
-        count += run(random, &words, &start, 4000)?;
+        count += run(Pair::of(sides, &start), random, &words)?;
     }
     Ok(count)
 }
 
-fn run(random: &mut Random, words: &Words, start: &states::Numbers, length: usize) -> Counted {
-    let mut pair = Pair::of(start);
+fn run(mut pair: Pair, random: &mut Random, words: &Words) -> Counted {
     let mut before = pair.library.clone();
     let mut ticks = 0;
-    for _ in 0..length {
+    for _ in 0..RUN_LENGTH {
         before.copy_from(&pair.library);
         let step = next_step(random, words, &mut ticks, before.values());
         if !pair.agree(step) {
             let state = before.values().to_vec();
-            return Err(failure(StepCase { state, step }));
+            return Err(failure(&pair.sides, StepCase { state, step }));
         }
     }
-    Ok(length as u64)
+    Ok(RUN_LENGTH)
 }
 
 /// A tick while any are left to pass, else a word, and new ticks to pass.

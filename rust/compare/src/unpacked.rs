@@ -3,15 +3,19 @@
 use crate::orders::random_plan;
 use crate::random::Random;
 use crate::reduce::{Counted, Failure};
+use crate::sides::Sides;
 use crate::states::{self, Numbers};
 use crate::words::Words;
 use paper::{IrCallerBits, Refusal};
 use shabgozim::{place, Act, Cause, CoverMove, Outcome, State, Task, Ticked};
-use shabgozim::{CcdInputs, IrInputs, PlanRefusal, Translation};
+use shabgozim::{CcdInputs, IrInputs, PlanRefusal, Schedule, Translation, MOST_WORDS};
 use std::fmt::Debug;
 
 /// Every sort of answer, from states of every sort.
-pub fn answers(random: &mut Random, times: u32) -> Counted {
+///
+/// The sides are not those of a caller: the types of the wrapper and of the
+/// paper are compared, and each type has its own functions.
+pub fn answers(_: &Sides, random: &mut Random, times: u32) -> Counted {
     let words = Words::new();
     let mut count = 0;
     for _ in 0..200_000 * times {
@@ -27,6 +31,7 @@ pub fn answers(random: &mut Random, times: u32) -> Counted {
         let at = random.below(plan.len());
         plan[at] ^= random.byte() & random.byte() & random.byte();
         count += translation(&state, &plan, random.below(300))?;
+        count += schedule(&state, &plan)?;
     }
     Ok(count)
 }
@@ -120,6 +125,19 @@ fn translation(state: &Numbers, plan: &[u8], room: usize) -> Counted {
     let expected = paper::translate(&expected, plan, &mut words, &mut ticks);
     let expected = expected.map(|done| Translation {
         count: done.count,
+        end: done.end,
+    });
+    same(state, found, expected.map_err(refusal_of))
+}
+
+/// A translation into a list with room for every word.
+fn schedule(state: &Numbers, plan: &[u8]) -> Counted {
+    let (mut words, mut ticks) = ([0; MOST_WORDS], [0; MOST_WORDS]);
+    let found = shabgozim::schedule(&State { numbers: *state }, plan);
+    let expected = paper::State::from_array(state);
+    let expected = paper::translate(&expected, plan, &mut words, &mut ticks);
+    let expected = expected.map(|done| Schedule {
+        words: ticks.into_iter().zip(words).take(done.count).collect(),
         end: done.end,
     });
     same(state, found, expected.map_err(refusal_of))

@@ -1,10 +1,12 @@
 //! The two implementations behind one interface: slices and packed numbers,
 //! as in `include/shabgozim.h`.
 
+mod functions;
 mod library;
 mod paper;
 mod paper_blocks;
 
+pub use functions::{Functions, Sides};
 pub use library::Library;
 pub use paper::Paper;
 

@@ -1,0 +1,52 @@
+//! The functions of a side as values, so that a test can replace one of them.
+
+use super::{Library, Paper, Shown, Side};
+
+/// The functions of [`Side`].
+#[derive(Clone, Copy)]
+pub struct Functions {
+    pub power_on: fn(&mut [u16]) -> u32,
+    pub in_range: fn(&[u16]) -> u32,
+    pub word: fn(&mut [u16], u16) -> u32,
+    pub tick: fn(&mut [u16]) -> u32,
+    pub decode: fn(u16) -> u32,
+    pub encode: fn(u8, u16) -> u32,
+    pub translate: fn(&[u16], &[u8], &mut [u16], &mut [u32]) -> u64,
+    pub write_ir: fn(&[u16], Shown, &[u16], &mut [u16]) -> u32,
+    pub write_ccd: fn(&[u16], Shown, &[u16], &mut [u16]) -> u32,
+    pub read_ir: fn(&[u16], &mut [u16]) -> u32,
+    pub read_ccd: fn(&[u16], &mut [u16]) -> u32,
+}
+
+/// The two sides of a comparison.
+#[derive(Clone, Copy)]
+pub struct Sides {
+    pub library: Functions,
+    pub paper: Functions,
+}
+
+impl Functions {
+    pub const fn of<S: Side>() -> Functions {
+        Functions {
+            power_on: S::power_on,
+            in_range: S::in_range,
+            word: S::word,
+            tick: S::tick,
+            decode: S::decode,
+            encode: S::encode,
+            translate: S::translate,
+            write_ir: S::write_ir,
+            write_ccd: S::write_ccd,
+            read_ir: S::read_ir,
+            read_ccd: S::read_ccd,
+        }
+    }
+}
+
+impl Sides {
+    /// The two sides as they are.
+    pub const LIBRARY_AND_PAPER: Sides = Sides {
+        library: Functions::of::<Library>(),
+        paper: Functions::of::<Paper>(),
+    };
+}
