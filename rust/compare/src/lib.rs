@@ -4,16 +4,20 @@
 //! | module | idea |
 //! |---|---|
 //! | [`sides`] | the two implementations behind one interface |
-//! | [`random`], [`states`], [`words`] | what they are given |
+//! | [`random`], [`states`], [`words`], [`orders`] | what they are given |
 //! | [`buffer`] | lent buffers with margins |
 //! | [`reduce`] | a failing case made short |
+//! | [`parts`] | the list of all comparisons |
+//! | [`command`] | the command line |
 //! | the others | the comparisons |
 
 pub mod blocks;
 pub mod buffer;
 pub mod codec;
+pub mod command;
 pub mod demand3;
 pub mod orders;
+pub mod parts;
 mod plan_answer;
 mod plan_case;
 pub mod plans;

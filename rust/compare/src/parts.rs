@@ -1,0 +1,37 @@
+//! The parts of the comparison, by name.
+
+use crate::random::Random;
+use crate::reduce::Counted;
+use crate::sides::Sides;
+use crate::{blocks, codec, demand3, plans, steps, unpacked};
+
+/// One part. It is given the sides, the source of its random inputs, and how
+/// many times as many of them it makes.
+#[derive(Clone, Copy)]
+pub struct Part {
+    pub name: &'static str,
+    pub compare: fn(&Sides, &mut Random, u32) -> Counted,
+}
+
+const fn part(name: &'static str, compare: fn(&Sides, &mut Random, u32) -> Counted) -> Part {
+    Part { name, compare }
+}
+
+/// Every part, in the order in which they run.
+pub const PARTS: &[Part] = &[
+    part("decode", codec::decode_all),
+    part("encode", codec::encode_all),
+    part("words from states", steps::words_from_states),
+    part("every number of a state", steps::every_number),
+    part("state lengths", steps::state_lengths),
+    part("runs of words and ticks", steps::runs),
+    part("plan fields", plans::fields),
+    part("plan forms", plans::forms),
+    part("damaged plans", plans::damaged),
+    part("plans, states, buffers", plans::mixed),
+    part("demand 3", demand3::random_plans),
+    part("blocks written", blocks::written),
+    part("blocks read", blocks::read),
+    part("block lengths", blocks::lengths),
+    part("unpacked answers", unpacked::answers),
+];
