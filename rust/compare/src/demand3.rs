@@ -1,8 +1,10 @@
 //! Demand 3: the library's words, given to the library's own head, against
 //! the plan read order by order without any words.
 
-use crate::orders::{self, random_plan};
+use crate::limit_plans;
+use crate::orders::{self, Order};
 use crate::random::Random;
+use crate::random_plans::{any_orders, late_end, many_words};
 use crate::reduce::{failure, Case, Counted};
 use crate::run::{Run, Schedule};
 use crate::sides::{Functions, Sides};
@@ -19,6 +21,11 @@ struct DemandCase {
 }
 
 impl DemandCase {
+    fn new(state: Numbers, orders: &[Order]) -> DemandCase {
+        let plan = orders::plan(orders);
+        DemandCase { state, plan }
+    }
+
     /// Compares the run with the reading.
     fn compare(self, sides: &Sides) -> Counted {
         match self.check(&sides.library) {
@@ -83,16 +90,43 @@ impl fmt::Display for DemandCase {
     }
 }
 
+fn power_on_or_idle(random: &mut Random) -> Numbers {
+    match random.below(4) {
+        0 => states::power_on(),
+        _ => states::idle(random),
+    }
+}
+
 /// Accepted plans from power-on and from idle states.
 pub fn random_plans(sides: &Sides, random: &mut Random, times: u32) -> Counted {
     let mut count = 0;
     for _ in 0..3000 * times {
-        let state = match random.below(4) {
-            0 => states::power_on(),
-            _ => states::idle(random),
+        let orders = match random.below(32) {
+            0 => many_words(random),
+            _ => any_orders(random),
         };
-        let plan = random_plan(random);
-        count += DemandCase { state, plan }.compare(sides)?;
+        let case = DemandCase::new(power_on_or_idle(random), &orders);
+        count += case.compare(sides)?;
+    }
+    Ok(count)
+}
+
+/// Plans at the limits of translation, and random ones with late ends.
+pub fn at_limits(sides: &Sides, random: &mut Random, times: u32) -> Counted {
+    let mut plans = limit_plans::alone();
+    plans.extend(limit_plans::in_turn());
+    plans.extend(limit_plans::exposures_after_settings());
+    plans.extend(limit_plans::of_every_word_count());
+    let mut count = 0;
+    for orders in plans {
+        for state in [states::power_on(), states::longest_times()] {
+            count += DemandCase::new(state, &orders).compare(sides)?;
+        }
+    }
+    for _ in 0..20 * times {
+        let orders = late_end(random);
+        let case = DemandCase::new(power_on_or_idle(random), &orders);
+        count += case.compare(sides)?;
     }
     Ok(count)
 }

@@ -7,10 +7,21 @@ pub const MOST_ORDERS: usize = 64;
 /// The place of a plan's first order.
 pub const FIRST_PLACE: usize = 3;
 
-const EXPOSE: u8 = 15;
-const WINDOW: u8 = 6;
-const WINDOW_WIDTH: i32 = 875;
-const WAIT: u8 = 17;
+// Codes of orders.
+pub const VDETCOM: u8 = 1;
+pub const IR_TIMES: u8 = 3;
+pub const CCD_TIMES: u8 = 4;
+pub const WINDOW_MODE: u8 = 5;
+pub const WINDOW: u8 = 6;
+pub const MIRROR: u8 = 12;
+pub const MOTOR: u8 = 13;
+pub const COVER: u8 = 14;
+pub const EXPOSE: u8 = 15;
+pub const HOUSEKEEPING: u8 = 16;
+pub const WAIT: u8 = 17;
+
+/// A window's second column less its first.
+pub const WINDOW_WIDTH: i32 = 875;
 
 /// A field of an order: how many bytes it has, and its range.
 pub struct Field {
@@ -64,6 +75,13 @@ pub struct Order {
 }
 
 impl Order {
+    pub fn new(code: u8, values: &[i32]) -> Order {
+        Order {
+            code,
+            values: values.to_vec(),
+        }
+    }
+
     /// An order of a code with fields in range.
     pub fn random(random: &mut Random, code: u8) -> Order {
         let fields = FIELDS[usize::from(code) - 1];
@@ -120,18 +138,6 @@ pub fn with_body(body: &[u8]) -> Vec<u8> {
     plan.extend((body.len() as u16).to_be_bytes());
     plan.extend(body);
     plan
-}
-
-/// So many random orders.
-pub fn random_orders(random: &mut Random, count: usize) -> Vec<Order> {
-    (0..count).map(|_| Order::any(random)).collect()
-}
-
-/// A plan of up to 64 orders in range.
-pub fn random_plan(random: &mut Random) -> Vec<u8> {
-    let most = *random.pick(&[1, 4, 16, MOST_ORDERS as i32]);
-    let count = random.within(0, most) as usize;
-    plan(&random_orders(random, count))
 }
 
 /// A plan by its bytes.

@@ -3,7 +3,7 @@
 use crate::random::Random;
 use crate::reduce::Counted;
 use crate::sides::Sides;
-use crate::{blocks, codec, demand3, plans, steps, unpacked};
+use crate::{blocks, codec, demand3, limits, plans, steps, unpacked};
 
 /// One part. It is given the sides, the source of its random inputs, and how
 /// many times as many of them it makes.
@@ -29,7 +29,9 @@ pub const PARTS: &[Part] = &[
     part("plan forms", plans::forms),
     part("damaged plans", plans::damaged),
     part("plans, states, buffers", plans::mixed),
+    part("plans at the limits", limits::plans),
     part("demand 3", demand3::random_plans),
+    part("demand 3 at the limits", demand3::at_limits),
     part("blocks written", blocks::written),
     part("blocks read", blocks::read),
     part("block lengths", blocks::lengths),

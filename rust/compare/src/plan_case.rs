@@ -37,10 +37,10 @@ pub struct Translator {
 }
 
 impl Lists {
-    fn new() -> Lists {
+    fn new(room: usize) -> Lists {
         Lists {
-            words: Buffer::filled(ROOM, NO_WORD),
-            ticks: Buffer::filled(ROOM, NO_TICK),
+            words: Buffer::filled(room, NO_WORD),
+            ticks: Buffer::filled(room, NO_TICK),
         }
     }
 
@@ -58,14 +58,26 @@ impl Lists {
 
 impl Translator {
     pub fn new(sides: &Sides) -> Translator {
+        Translator::with_room(sides, ROOM)
+    }
+
+    /// For buffers of up to so many places.
+    pub fn with_room(sides: &Sides, room: usize) -> Translator {
         Translator {
             sides: *sides,
-            library: Lists::new(),
-            paper: Lists::new(),
+            library: Lists::new(room),
+            paper: Lists::new(room),
         }
     }
 
-    pub fn answers(&mut self, case: &PlanCase) -> (u64, u64) {
+    /// How many words the plan has; 0 where both sides refuse it.
+    pub fn words_needed(&mut self, case: &PlanCase) -> usize {
+        let (answer, expected) = self.answers(case);
+        let count = |answer| PlanAnswer::of(answer).count;
+        count(answer).max(count(expected))
+    }
+
+    fn answers(&mut self, case: &PlanCase) -> (u64, u64) {
         let answer = self.library.translate(&self.sides.library, case);
         (answer, self.paper.translate(&self.sides.paper, case))
     }
@@ -115,7 +127,8 @@ impl PlanCase {
 
 impl Case for PlanCase {
     fn difference(&self, sides: &Sides) -> Option<String> {
-        let mut translator = Translator::new(sides);
+        let room = ROOM.max(self.words).max(self.ticks);
+        let mut translator = Translator::with_room(sides, room);
         let (answer, expected) = translator.answers(self);
         if answer != expected {
             let (answer, expected) = (PlanAnswer::of(answer), PlanAnswer::of(expected));

@@ -1,9 +1,9 @@
 //! Translation of plans: valid, at every limit, and damaged.
 
-use crate::orders::{self, random_orders, random_plan, Order, FIELDS, FIRST_PLACE, MOST_ORDERS};
-use crate::plan_answer::PlanAnswer;
+use crate::orders::{self, Order, FIELDS, FIRST_PLACE, MOST_ORDERS};
 use crate::plan_case::{PlanCase, Translator, ROOM};
 use crate::random::Random;
+use crate::random_plans::{any_or_extreme_orders, random_orders};
 use crate::reduce::Counted;
 use crate::sides::Sides;
 use crate::states;
@@ -149,7 +149,7 @@ fn every_buffer_length(translator: &mut Translator, random: &mut Random) -> Coun
     let mut count = 0;
     for orders in 0..8 {
         let plan = orders::plan(&random_orders(random, orders));
-        let needed = words_of(translator, &PlanCase::from_power_on(plan.clone()));
+        let needed = translator.words_needed(&PlanCase::from_power_on(plan.clone()));
         for words in 0..=needed + 2 {
             for ticks in 0..=needed + 2 {
                 let mut case = PlanCase::from_power_on(plan.clone());
@@ -161,19 +161,13 @@ fn every_buffer_length(translator: &mut Translator, random: &mut Random) -> Coun
     Ok(count)
 }
 
-/// How many words the plan has; 0 where it is refused.
-fn words_of(translator: &mut Translator, case: &PlanCase) -> usize {
-    let (_, expected) = translator.answers(case);
-    PlanAnswer::of(expected).count
-}
-
 /// Valid plans with each byte changed, left out or doubled, and each part.
 pub fn damaged(sides: &Sides, random: &mut Random, times: u32) -> Counted {
     let mut translator = Translator::new(sides);
     let mut count = 0;
     for _ in 0..2000 * times {
         let state = power_on_or_idle(random);
-        let case = PlanCase::new(&state, random_plan(random));
+        let case = PlanCase::new(&state, orders::plan(&any_or_extreme_orders(random)));
         count += translator.compare(&case)?;
         count += each_byte_changed(&mut translator, random, &case)?;
         count += each_byte_moved(&mut translator, random, &case)?;
@@ -241,7 +235,7 @@ pub fn mixed(sides: &Sides, random: &mut Random, times: u32) -> Counted {
     }
     for _ in 0..300_000 * times {
         let mut case = PlanCase::new(&any_state(random), any_plan(random));
-        let needed = words_of(&mut translator, &case);
+        let needed = translator.words_needed(&case);
         case.words = any_length(random, needed);
         case.ticks = any_length(random, needed);
         count += translator.compare(&case)?;
@@ -263,7 +257,7 @@ fn any_state(random: &mut Random) -> Vec<u16> {
 }
 
 fn any_plan(random: &mut Random) -> Vec<u8> {
-    let mut plan = random_plan(random);
+    let mut plan = orders::plan(&any_or_extreme_orders(random));
     if random.once_in(3) {
         let at = random.below(plan.len());
         plan[at] = random.byte() >> random.below(8);

@@ -101,6 +101,17 @@ pub fn power_on() -> Numbers {
     paper::power_on().to_array()
 }
 
+/// Power-on, but for the times of the longest acquisition.
+pub fn longest_times() -> Numbers {
+    let times = [
+        place::IR_DELAY,
+        place::IR_EXPO,
+        place::CCD_DELAY,
+        place::CCD_EXPO,
+    ];
+    with(&power_on(), &times.map(|time| (time, MOST[time])))
+}
+
 fn with(base: &Numbers, changes: &[(usize, u16)]) -> Numbers {
     let mut numbers = *base;
     for &(place, value) in changes {

@@ -1,7 +1,8 @@
 //! The wrapper's unpacked answers against the paper's own types.
 
-use crate::orders::random_plan;
+use crate::orders;
 use crate::random::Random;
+use crate::random_plans::any_or_extreme_orders;
 use crate::reduce::{Counted, Failure};
 use crate::sides::Sides;
 use crate::states::{self, Numbers};
@@ -27,7 +28,7 @@ pub fn answers(_: &Sides, random: &mut Random, times: u32) -> Counted {
     }
     for _ in 0..20_000 * times {
         let state = states::idle(random);
-        let mut plan = random_plan(random);
+        let mut plan = orders::plan(&any_or_extreme_orders(random));
         let at = random.below(plan.len());
         plan[at] ^= random.byte() & random.byte() & random.byte();
         count += translation(&state, &plan, random.below(300))?;

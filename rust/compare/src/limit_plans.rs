@@ -1,0 +1,137 @@
+//! Plans at the limits of translation: as many words as can be, and as late
+//! an end.
+
+use crate::orders::{self, Order, MOST_ORDERS};
+use shabgozim::MOST_WORDS;
+
+const LONGEST_TIME: i32 = 1023;
+
+/// The orders with the most words and those that take the longest, each by
+/// its index in the plan.
+const EXTREMES: [fn(usize) -> Order; 7] = [
+    mirror,
+    window,
+    longest_wait,
+    exposure,
+    longest_cover_move,
+    housekeeping,
+    motor_on,
+];
+
+fn mirror(index: usize) -> Order {
+    let pairs = [[-4095, 4095], [4095, 0], [0, 4095], [-1, 1]];
+    Order::new(orders::MIRROR, &pairs[index % pairs.len()])
+}
+
+fn window(index: usize) -> Order {
+    let x1 = [0, 148][index % 2];
+    Order::new(orders::WINDOW, &[x1, 0, x1 + orders::WINDOW_WIDTH, 511])
+}
+
+fn longest_wait(_: usize) -> Order {
+    Order::new(orders::WAIT, &[65_535])
+}
+
+fn exposure(_: usize) -> Order {
+    Order::new(orders::EXPOSE, &[])
+}
+
+/// Direction, wave and sensors differ from one move to the next.
+fn longest_cover_move(index: usize) -> Order {
+    let bit = |place: u32| (index >> place & 1) as i32;
+    Order::new(orders::COVER, &[bit(0), bit(1), bit(2), 81])
+}
+
+fn housekeeping(_: usize) -> Order {
+    Order::new(orders::HOUSEKEEPING, &[])
+}
+
+fn motor_on(_: usize) -> Order {
+    Order::new(orders::MOTOR, &[1])
+}
+
+/// All the plans below.
+pub fn all() -> Vec<Vec<Order>> {
+    let mut plans = alone();
+    plans.extend(in_turn());
+    plans.extend(one_after_another());
+    plans.extend(exposures_after_settings());
+    plans.extend(of_every_word_count());
+    plans
+}
+
+/// 64 orders of one sort.
+pub fn alone() -> Vec<Vec<Order>> {
+    let plans = EXTREMES.iter();
+    let plans = plans.map(|order| (0..MOST_ORDERS).map(order).collect());
+    plans.collect()
+}
+
+/// 64 orders of two sorts in turn.
+pub fn in_turn() -> Vec<Vec<Order>> {
+    let plan = |pair: [fn(usize) -> Order; 2]| {
+        let orders = (0..MOST_ORDERS).map(|index| pair[index % 2](index / 2));
+        orders.collect()
+    };
+    pairs().into_iter().map(plan).collect()
+}
+
+/// Every number of orders of one sort, then another sort up to 64 orders.
+fn one_after_another() -> Vec<Vec<Order>> {
+    let mut plans = Vec::new();
+    for [first, second] in pairs() {
+        for count in 1..MOST_ORDERS {
+            let following = (count..MOST_ORDERS).map(second);
+            plans.push((0..count).map(first).chain(following).collect());
+        }
+    }
+    plans
+}
+
+fn pairs() -> Vec<[fn(usize) -> Order; 2]> {
+    let places = 0..EXTREMES.len();
+    let pairs = places
+        .clone()
+        .flat_map(|first| places.clone().map(move |second| (first, second)));
+    let different = pairs.filter(|(first, second)| first != second);
+    different
+        .map(|(first, second)| [EXTREMES[first], EXTREMES[second]])
+        .collect()
+}
+
+/// The longest and shortest times in each readout, then exposures.
+pub fn exposures_after_settings() -> Vec<Vec<Order>> {
+    let mut plans = Vec::new();
+    for ir in [0, LONGEST_TIME] {
+        for ccd in [5, LONGEST_TIME] {
+            for mode in [0, 1] {
+                let mut orders = vec![
+                    Order::new(orders::IR_TIMES, &[ir, ir]),
+                    Order::new(orders::CCD_TIMES, &[ccd, ccd]),
+                    Order::new(orders::WINDOW_MODE, &[mode]),
+                ];
+                orders.extend((orders.len()..MOST_ORDERS).map(exposure));
+                plans.push(orders);
+            }
+        }
+    }
+    plans
+}
+
+/// A plan for every number of words. 255 is no such number: orders have four
+/// words, two, one or none, and 64 orders must do.
+pub fn of_every_word_count() -> Vec<Vec<Order>> {
+    let plans = (0..=MOST_WORDS).map(of_words);
+    plans.filter(|orders| orders.len() <= MOST_ORDERS).collect()
+}
+
+fn of_words(words: usize) -> Vec<Order> {
+    let mut orders: Vec<Order> = (0..words / 4).map(mirror).collect();
+    if words % 4 >= 2 {
+        orders.push(Order::new(orders::VDETCOM, &[4095]));
+    }
+    if words % 2 == 1 {
+        orders.push(housekeeping(0));
+    }
+    orders
+}
