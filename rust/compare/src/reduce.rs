@@ -28,13 +28,18 @@ pub fn failure<C: Case>(sides: &Sides, case: C) -> Failure {
 }
 
 fn shortest<C: Case>(sides: &Sides, mut case: C) -> C {
-    while let Some(next) = first_failing(sides, case.shorter()) {
-        case = next;
+    let mut place = 0;
+    while let Some((found, shorter)) = next_failing(sides, case.shorter(), place) {
+        (place, case) = (found, shorter);
     }
     case
 }
 
-fn first_failing<C: Case>(sides: &Sides, cases: Vec<C>) -> Option<C> {
-    let mut cases = cases.into_iter();
-    cases.find(|case| case.difference(sides).is_some())
+/// The next case that differs, and its place. What stands from the given
+/// place on is tried first: what was tried before it is unlikely to differ.
+fn next_failing<C: Case>(sides: &Sides, mut cases: Vec<C>, place: usize) -> Option<(usize, C)> {
+    let first = place.min(cases.len());
+    let mut places = (first..cases.len()).chain(0..first);
+    let found = places.find(|&place| cases[place].difference(sides).is_some())?;
+    Some((found, cases.swap_remove(found)))
 }
