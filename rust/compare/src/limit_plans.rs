@@ -135,3 +135,49 @@ fn of_words(words: usize) -> Vec<Order> {
     }
     orders
 }
+
+#[cfg(test)]
+mod tests {
+    use super::*;
+    use crate::states::{longest_times, power_on, Numbers};
+    use paper::Translation;
+    use std::collections::BTreeSet;
+
+    fn translated(state: &Numbers, orders: &[Order]) -> Translation {
+        let (mut words, mut ticks) = ([0; MOST_WORDS], [0; MOST_WORDS]);
+        let state = paper::State::from_array(state);
+        let done = paper::translate(&state, &orders::plan(orders), &mut words, &mut ticks);
+        done.expect("an accepted plan")
+    }
+
+    #[test]
+    fn the_limits_are_reached() {
+        let done = alone().into_iter();
+        let done = done.map(|orders| translated(&longest_times(), &orders));
+        let limits: Vec<(usize, u32)> = done.map(|done| (done.count, done.end)).collect();
+        let exposures = (64, 64 * 4238);
+        let cover_moves = (64, 63 * 2025 + 1);
+        let [mirrors, windows, waits] = [(256, 256), (256, 256), (0, 4_194_240)];
+        assert_eq!(
+            limits[..5],
+            [mirrors, windows, waits, exposures, cover_moves]
+        );
+    }
+
+    #[test]
+    fn every_word_count_but_255_is_there() {
+        let plans = of_every_word_count().into_iter();
+        let counts: BTreeSet<usize> = plans
+            .map(|orders| translated(&power_on(), &orders).count)
+            .collect();
+        let expected: BTreeSet<usize> = (0..=256).filter(|&count| count != 255).collect();
+        assert_eq!(counts, expected);
+    }
+
+    #[test]
+    fn every_plan_is_accepted() {
+        for orders in all() {
+            translated(&power_on(), &orders);
+        }
+    }
+}

@@ -51,3 +51,35 @@ fn mostly(random: &mut Random, others: usize, usual: impl Fn(&mut Random) -> Ord
     }
     orders
 }
+
+#[cfg(test)]
+mod tests {
+    use super::*;
+    use crate::orders::plan;
+    use paper::{power_on, translate, Translation};
+
+    fn translated(sort: fn(&mut Random) -> Vec<Order>) -> Vec<Translation> {
+        let mut random = Random::new(1);
+        let mut one = |_| {
+            let plan = plan(&sort(&mut random));
+            let done = translate(&power_on(), &plan, &mut [0; 256], &mut [0; 256]);
+            done.expect("an accepted plan")
+        };
+        (0..1000).map(&mut one).collect()
+    }
+
+    #[test]
+    fn many_words_are_up_to_256() {
+        let counts = translated(many_words).into_iter().map(|done| done.count);
+        assert_eq!(counts.clone().max(), Some(256));
+        assert!(counts.clone().all(|count| count >= 58 * 4), "{counts:?}");
+    }
+
+    #[test]
+    fn late_ends_are_up_to_the_latest() {
+        let ends = translated(late_end).into_iter().map(|done| done.end);
+        assert_eq!(ends.clone().max(), Some(4_194_240));
+        let late = ends.filter(|&end| end > 800_000).count();
+        assert!(late > 500, "{late}");
+    }
+}
