@@ -4,7 +4,7 @@ use crate::orders;
 use crate::random::Random;
 use crate::random_plans::any_or_extreme_orders;
 use crate::reduce::{Counted, Failure};
-use crate::sides::Sides;
+use crate::sides::{Sides, Typed};
 use crate::states::{self, Numbers};
 use crate::words::Words;
 use paper::{IrCallerBits, Refusal};
@@ -13,26 +13,24 @@ use shabgozim::{CcdInputs, IrInputs, PlanRefusal, Schedule, Translation, MOST_WO
 use std::fmt::Debug;
 
 /// Every sort of answer, from states of every sort.
-///
-/// The sides are not those of a caller: the types of the wrapper and of the
-/// paper are compared, and each type has its own functions.
-pub fn answers(_: &Sides, random: &mut Random, times: u32) -> Counted {
+pub fn answers(sides: &Sides, random: &mut Random, times: u32) -> Counted {
+    let paper = &sides.typed;
     let words = Words::new();
     let mut count = 0;
     for _ in 0..200_000 * times {
         let state = states::any(random);
         let word = words.likely(random, state[place::SET_WORDS]);
-        count += step(&state, word)?;
-        count += ir_block(random, &state)?;
-        count += ccd_block(random, &state)?;
+        count += step(paper, &state, word)?;
+        count += ir_block(paper, random, &state)?;
+        count += ccd_block(paper, random, &state)?;
     }
     for _ in 0..20_000 * times {
         let state = states::idle(random);
         let mut plan = orders::plan(&any_or_extreme_orders(random));
         let at = random.below(plan.len());
         plan[at] ^= random.byte() & random.byte() & random.byte();
-        count += translation(&state, &plan, random.below(300))?;
-        count += schedule(&state, &plan)?;
+        count += translation(paper, &state, &plan, random.below(300))?;
+        count += schedule(paper, &state, &plan)?;
     }
     Ok(count)
 }
@@ -47,18 +45,18 @@ fn same<T: PartialEq + Debug>(state: &Numbers, found: T, expected: T) -> Counted
 }
 
 /// A word and a tick.
-fn step(state: &Numbers, word: u16) -> Counted {
+fn step(paper: &Typed, state: &Numbers, word: u16) -> Counted {
     let mut head = State { numbers: *state };
     let mut expected = paper::State::from_array(state);
-    let mut count = same(state, head.in_range(), paper::in_range(&expected))?;
+    let mut count = same(state, head.in_range(), (paper.in_range)(&expected))?;
     let outcome = head.word(word);
     count += same(
         state,
         outcome,
-        outcome_of(paper::receive(&mut expected, word)),
+        outcome_of((paper.receive)(&mut expected, word)),
     )?;
     let ticked = head.tick();
-    count += same(state, ticked, ticked_of(paper::tick(&mut expected)))?;
+    count += same(state, ticked, ticked_of((paper.tick)(&mut expected)))?;
     count += same(state, head.numbers, expected.to_array())?;
     Ok(count)
 }
@@ -118,12 +116,12 @@ fn shown(flags: paper::ErrorFlags) -> shabgozim::ErrorFlags {
 }
 
 /// A translation into buffers of some length.
-fn translation(state: &Numbers, plan: &[u8], room: usize) -> Counted {
+fn translation(paper: &Typed, state: &Numbers, plan: &[u8], room: usize) -> Counted {
     let (mut words, mut ticks) = (vec![0; room], vec![0; room]);
     let head = State { numbers: *state };
     let found = shabgozim::translate(&head, plan, &mut words, &mut ticks);
     let expected = paper::State::from_array(state);
-    let expected = paper::translate(&expected, plan, &mut words, &mut ticks);
+    let expected = (paper.translate)(&expected, plan, &mut words, &mut ticks);
     let expected = expected.map(|done| Translation {
         count: done.count,
         end: done.end,
@@ -132,11 +130,11 @@ fn translation(state: &Numbers, plan: &[u8], room: usize) -> Counted {
 }
 
 /// A translation into a list with room for every word.
-fn schedule(state: &Numbers, plan: &[u8]) -> Counted {
+fn schedule(paper: &Typed, state: &Numbers, plan: &[u8]) -> Counted {
     let (mut words, mut ticks) = ([0; MOST_WORDS], [0; MOST_WORDS]);
     let found = shabgozim::schedule(&State { numbers: *state }, plan);
     let expected = paper::State::from_array(state);
-    let expected = paper::translate(&expected, plan, &mut words, &mut ticks);
+    let expected = (paper.translate)(&expected, plan, &mut words, &mut ticks);
     let expected = expected.map(|done| Schedule {
         words: ticks.into_iter().zip(words).take(done.count).collect(),
         end: done.end,
@@ -164,7 +162,7 @@ fn any_flags(random: &mut Random) -> paper::ErrorFlags {
 }
 
 /// The IR block written and, unless refused, read again.
-fn ir_block(random: &mut Random, state: &Numbers) -> Counted {
+fn ir_block(paper: &Typed, random: &mut Random, state: &Numbers) -> Counted {
     let flags = any_flags(random);
     let ended = random.once_in(2);
     let inputs = IrInputs {
@@ -182,10 +180,10 @@ fn ir_block(random: &mut Random, state: &Numbers) -> Counted {
     };
     let mut block = [0; shabgozim::IR_LENGTH];
     let head = paper::State::from_array(state);
-    let number = paper::write_ir(&head, &flags, ended, &inputs.readings, bits, &mut block);
+    let number = (paper.write_ir)(&head, &flags, ended, &inputs.readings, bits, &mut block);
     let mut count = same(state, written, written_block(number, block))?;
     block[random.below(block.len())] ^= random.number() & random.number() & random.number();
-    let expected = paper::read_ir(&block)
+    let expected = (paper.read_ir)(&block)
         .map(ir_meaning)
         .map_err(block_refusal);
     count += same(state, shabgozim::read_ir(&block), expected)?;
@@ -193,7 +191,7 @@ fn ir_block(random: &mut Random, state: &Numbers) -> Counted {
 }
 
 /// The CCD block written and, unless refused, read again.
-fn ccd_block(random: &mut Random, state: &Numbers) -> Counted {
+fn ccd_block(paper: &Typed, random: &mut Random, state: &Numbers) -> Counted {
     let flags = any_flags(random);
     let ended = random.once_in(2);
     let inputs = CcdInputs {
@@ -205,10 +203,10 @@ fn ccd_block(random: &mut Random, state: &Numbers) -> Counted {
     let mut block = [0; shabgozim::CCD_LENGTH];
     let head = paper::State::from_array(state);
     let CcdInputs { readings, latch_up } = inputs;
-    let number = paper::write_ccd(&head, &flags, ended, &readings, latch_up, &mut block);
+    let number = (paper.write_ccd)(&head, &flags, ended, &readings, latch_up, &mut block);
     let mut count = same(state, written, written_block(number, block))?;
     block[random.below(block.len())] ^= random.number() & random.number() & random.number();
-    let expected = paper::read_ccd(&block)
+    let expected = (paper.read_ccd)(&block)
         .map(ccd_meaning)
         .map_err(block_refusal);
     count += same(state, shabgozim::read_ccd(&block), expected)?;

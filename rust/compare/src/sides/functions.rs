@@ -1,6 +1,6 @@
 //! The functions of a side as values, so that a test can replace one of them.
 
-use super::{Library, Paper, Shown, Side};
+use super::{Library, Paper, Shown, Side, Typed};
 
 /// The functions of [`Side`].
 #[derive(Clone, Copy)]
@@ -23,6 +23,8 @@ pub struct Functions {
 pub struct Sides {
     pub library: Functions,
     pub paper: Functions,
+    /// The wrapper's functions with types are compared with these.
+    pub typed: Typed,
 }
 
 impl Functions {
@@ -48,5 +50,6 @@ impl Sides {
     pub const LIBRARY_AND_PAPER: Sides = Sides {
         library: Functions::of::<Library>(),
         paper: Functions::of::<Paper>(),
+        typed: Typed::PAPER,
     };
 }

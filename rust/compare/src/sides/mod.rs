@@ -5,10 +5,12 @@ mod functions;
 mod library;
 mod paper;
 mod paper_blocks;
+mod typed;
 
 pub use functions::{Functions, Sides};
 pub use library::Library;
 pub use paper::Paper;
+pub use typed::Typed;
 
 pub trait Side {
     fn power_on(state: &mut [u16]) -> u32;

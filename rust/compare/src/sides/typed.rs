@@ -1,0 +1,35 @@
+//! The paper's functions with types of their own, which those of the wrapper
+//! are compared with.
+
+use paper::blocks::{CCD_READINGS, IR_READINGS};
+use paper::{BlockRefusal, CcdMeaning, ErrorFlags, IrCallerBits, IrMeaning};
+use paper::{Outcome, State, Ticked, Translated};
+
+#[derive(Clone, Copy)]
+pub struct Typed {
+    pub in_range: fn(&State) -> bool,
+    pub receive: fn(&mut State, u16) -> Outcome,
+    pub tick: fn(&mut State) -> Ticked,
+    pub translate: fn(&State, &[u8], &mut [u16], &mut [u32]) -> Translated,
+    pub write_ir: WriteIr,
+    pub write_ccd: WriteCcd,
+    pub read_ir: fn(&[u16]) -> Result<IrMeaning, BlockRefusal>,
+    pub read_ccd: fn(&[u16]) -> Result<CcdMeaning, BlockRefusal>,
+}
+
+pub type WriteIr =
+    fn(&State, &ErrorFlags, bool, &[u16; IR_READINGS], IrCallerBits, &mut [u16]) -> u16;
+pub type WriteCcd = fn(&State, &ErrorFlags, bool, &[u16; CCD_READINGS], bool, &mut [u16]) -> u16;
+
+impl Typed {
+    pub const PAPER: Typed = Typed {
+        in_range: paper::in_range,
+        receive: paper::receive,
+        tick: paper::tick,
+        translate: paper::translate,
+        write_ir: paper::write_ir,
+        write_ccd: paper::write_ccd,
+        read_ir: paper::read_ir,
+        read_ccd: paper::read_ccd,
+    };
+}
