@@ -20,7 +20,7 @@ mod limit_plans;
 pub mod limits;
 pub mod orders;
 pub mod parts;
-mod plan_answer;
+pub mod plan_answer;
 mod plan_case;
 pub mod plans;
 pub mod random;

@@ -1,0 +1,44 @@
+//! The comparison can fail: one fault put into one side is found by the part
+//! that should find it, and the case is reduced.
+
+mod blocks;
+mod fault;
+mod plans;
+mod words;
+
+use compare::parts::PARTS;
+use fault::Fault;
+
+#[test]
+fn faults_in_words_and_ticks_are_found() {
+    words::FAULTS.iter().for_each(Fault::must_be_found);
+}
+
+#[test]
+fn faults_in_plans_are_found() {
+    plans::FAULTS.iter().for_each(Fault::must_be_found);
+}
+
+#[test]
+fn faults_in_blocks_are_found() {
+    blocks::FAULTS.iter().for_each(Fault::must_be_found);
+}
+
+#[test]
+#[should_panic(expected = "not found in 65536 comparisons")]
+fn without_a_fault_nothing_is_found() {
+    let no_fault = Fault {
+        put: |_| {},
+        ..words::FAULTS[0]
+    };
+    no_fault.must_be_found();
+}
+
+#[test]
+fn every_part_has_a_fault_to_find() {
+    let faults = [words::FAULTS, plans::FAULTS, blocks::FAULTS].concat();
+    for part in PARTS {
+        let has_fault = faults.iter().any(|fault| fault.part == part.name);
+        assert!(has_fault, "{}", part.name);
+    }
+}
