@@ -1,5 +1,6 @@
 pub mod Fields
 pub mod Judged
+pub mod Numbered
 pub mod Copied
 pub mod Writing
 pub mod Parts

@@ -11,6 +11,7 @@ use Rattle.words.specs.Kinds.{allowed, greatest}
 use Rattle.head.specs.declared.state.Flags.{Flags}
 use Rattle.head.specs.declared.state.Head.{Head}
 use Rattle.blocks.specs.Status.{isSet, sineWord, sineIn, sineRight, visFlagWord, visFlagsIn, visFlagsRight}
+use Rattle.blocks.specs.declared.refusal.Refusal.{Refusal}
 use Rattle.blocks.specs.declared.refusal.Refusal.the-variants.{Length, FixedBit, OutOfRange}
 use Rattle.blocks.specs.declared.ccd.CcdBits.{CcdBits}
 use Rattle.blocks.specs.declared.ccd.Window.{Window}
@@ -79,22 +80,30 @@ ccdSaid window delay expo sine cosine flags =
       flags = visFlagsIn flags;
     }
 
--- Word by word, the first faulty one decides: 13 a value out of range, 12 a fixed bit is wrong. Here the words after the window.
+-- Word by word, the first faulty one decides: 13 a value out of range, 12 a fixed bit is wrong. What is
+-- decided is the answer, its number or its place. The window first.
+abbrev pub windowDecided : {A : Type 0} → (Refusal → A) → A → Window → A
+windowDecided refused right window =
+    cond (not (allowed kind.winX1 (window .x1))) (refused (OutOfRange 16))
+    (cond (not (allowed kind.winY1 (window .y1))) (refused (OutOfRange 17))
+    (cond (not (allowed kind.winX2 (window .x2))) (refused (OutOfRange 18))
+    (cond (not (allowed kind.winY2 (window .y2))) (refused (OutOfRange 19)) right)))
+
+abbrev pub restDecided : {A : Type 0} → (Refusal → A) → A → ℕ → ℕ → ℕ → ℕ → ℕ → A
+restDecided refused right delay expo sine cosine flags =
+    cond (not (allowed kind.ccdDelay delay)) (refused (OutOfRange 20))
+    (cond (not (allowed kind.ccdExpo expo)) (refused (OutOfRange 21))
+    (cond (not (sineRight sine)) (refused (FixedBit 22))
+    (cond (not (cosineRight cosine)) (refused (OutOfRange 23))
+    (cond (not (visFlagsRight flags)) (refused (FixedBit 24)) right))))
+
 unfoldable pub ccdRestJudged : Window → ℕ → ℕ → ℕ → ℕ → ℕ → CcdAnswer
 ccdRestJudged window delay expo sine cosine flags =
-    cond (not (allowed kind.ccdDelay delay)) (Refused (OutOfRange 20))
-    (cond (not (allowed kind.ccdExpo expo)) (Refused (OutOfRange 21))
-    (cond (not (sineRight sine)) (Refused (FixedBit 22))
-    (cond (not (cosineRight cosine)) (Refused (OutOfRange 23))
-    (cond (not (visFlagsRight flags)) (Refused (FixedBit 24)) (Block (ccdSaid window delay expo sine cosine flags))))))
+    restDecided Refused (Block (ccdSaid window delay expo sine cosine flags)) delay expo sine cosine flags
 
--- The window first.
 unfoldable pub ccdJudged : Window → ℕ → ℕ → ℕ → ℕ → ℕ → CcdAnswer
 ccdJudged window delay expo sine cosine flags =
-    cond (not (allowed kind.winX1 (window .x1))) (Refused (OutOfRange 16))
-    (cond (not (allowed kind.winY1 (window .y1))) (Refused (OutOfRange 17))
-    (cond (not (allowed kind.winX2 (window .x2))) (Refused (OutOfRange 18))
-    (cond (not (allowed kind.winY2 (window .y2))) (Refused (OutOfRange 19)) (ccdRestJudged window delay expo sine cosine flags))))
+    windowDecided Refused (ccdRestJudged window delay expo sine cosine flags) window
 
 -- 11 where there are not 25 words, before all else.
 unfoldable pub ccdAnswerOf : List ℕ → CcdAnswer
@@ -102,6 +111,13 @@ ccdAnswerOf ws =
     let w : ℕ → ℕ = λ k. getD ws k 0 in
     cond (not (eqb (length ws) ccdWords)) (Refused Length)
     (ccdJudged (record { x1 = w 16; y1 = w 17; x2 = w 18; y2 = w 19 }) (w 20) (w 21) (w 22) (w 23) (w 24))
+
+-- By number and place: 11 at 0 where there are not 25 words, else 12 or 13 at the first faulty word, 0 at 0 where the block is read.
+unfoldable pub ccdTold : (Refusal → ℕ) → List ℕ → ℕ
+ccdTold told ws =
+    let w : ℕ → ℕ = λ k. getD ws k 0 in
+    cond (not (eqb (length ws) ccdWords)) (told Length)
+    (windowDecided told (restDecided told 0 (w 20) (w 21) (w 22) (w 23) (w 24)) (record { x1 = w 16; y1 = w 17; x2 = w 18; y2 = w 19 }))
 
 -- The readings of a block that is read; a refused one gives none.
 unfoldable pub ccdReadingsOf : CcdAnswer → List ℕ → List ℕ

@@ -10,7 +10,8 @@ use Rattle.head.specs.declared.state.Task.{Task}
 use Rattle.head.specs.declared.state.Task.the-variants.{Idle, Acquisition, Housekeeping}
 use Rattle.head.specs.declared.tick.Due.{Due}
 use Rattle.head.specs.declared.tick.Due.the-variants as due
-use Rattle.blocks.specs.Written.{writtenOf, bufferAfter}
+use Rattle.blocks.specs.Numbers.{refusalNumber, notDueNumber}
+use Rattle.blocks.specs.Written.{writtenOf, writeNumber, bufferAfter}
 use Rattle.blocks.specs.Ir.{irWords, irBlockOf}
 use Rattle.blocks.specs.Ccd.{ccdWords, ccdBlockOf}
 use Rattle.blocks.specs.declared.refusal.Refusal.the-variants.{Length}
@@ -31,10 +32,20 @@ acquisition Housekeeping = false
 unfoldable pub bothWrittenOf : Head → List ℕ → List ℕ → Written
 bothWrittenOf s ir ccd = cond (not (eqb (length ccd) ccdWords)) (Refused Length) (writtenOf irWords s ir)
 
+-- By number: 11, then 21, else 0.
+unfoldable pub bothNumber : Head → List ℕ → List ℕ → ℕ
+bothNumber s ir ccd = cond (not (eqb (length ccd) ccdWords)) (refusalNumber Length) (writeNumber irWords s ir)
+
 unfoldable pub dueWrittenOf : Head → Due → List ℕ → List ℕ → DueWritten
 dueWrittenOf s due.Nothing ir ccd = NotDue
 dueWrittenOf s (due.Blocks ended flags) ir ccd = Blocks (bothWrittenOf s ir ccd)
 dueWrittenOf s due.Refused ir ccd = NotDue
+
+-- By number: a number of its own where no block is due.
+unfoldable pub dueNumber : Head → Due → List ℕ → List ℕ → ℕ
+dueNumber s due.Nothing ir ccd = notDueNumber
+dueNumber s (due.Blocks ended flags) ir ccd = bothNumber s ir ccd
+dueNumber s due.Refused ir ccd = notDueNumber
 
 -- What each buffer then holds.
 unfoldable pub irDueAfter : Head → Due → List ℕ → IrBits → List ℕ → List ℕ → List ℕ

@@ -11,6 +11,7 @@ use Rattle.words.specs.Kinds.{allowed}
 use Rattle.head.specs.declared.state.Flags.{Flags}
 use Rattle.head.specs.declared.state.Head.{Head}
 use Rattle.blocks.specs.Status.{isSet, lampShutterWord, lampShutterIn, lampShutterRight, irFlagWord, irFlagsIn, irFlagsRight}
+use Rattle.blocks.specs.declared.refusal.Refusal.{Refusal}
 use Rattle.blocks.specs.declared.refusal.Refusal.the-variants.{Length, FixedBit, OutOfRange}
 use Rattle.blocks.specs.declared.ir.IrBits.{IrBits}
 use Rattle.blocks.specs.declared.ir.IrMeaning.{IrMeaning}
@@ -95,19 +96,30 @@ irSaid y1 delay expo lampshutter flags =
     }
 
 -- Word by word, the first faulty one decides: 13 a value out of range, a wrong pair of lines told at Y2; 12 a fixed bit is wrong.
+-- What is decided is the answer, its number or its place.
+abbrev pub irDecided : {A : Type 0} → (Refusal → A) → A → ℕ → ℕ → ℕ → ℕ → ℕ → ℕ → A
+irDecided refused right y1 y2 delay expo lampshutter flags =
+    cond (not (linesRight y1 y2)) (refused (OutOfRange 15))
+    (cond (not (allowed kind.irDelay delay)) (refused (OutOfRange 16))
+    (cond (not (allowed kind.irExpo expo)) (refused (OutOfRange 17))
+    (cond (not (lampShutterRight lampshutter)) (refused (FixedBit 18))
+    (cond (not (irFlagsRight flags)) (refused (FixedBit 19)) right))))
+
 unfoldable pub irJudged : ℕ → ℕ → ℕ → ℕ → ℕ → ℕ → IrAnswer
 irJudged y1 y2 delay expo lampshutter flags =
-    cond (not (linesRight y1 y2)) (Refused (OutOfRange 15))
-    (cond (not (allowed kind.irDelay delay)) (Refused (OutOfRange 16))
-    (cond (not (allowed kind.irExpo expo)) (Refused (OutOfRange 17))
-    (cond (not (lampShutterRight lampshutter)) (Refused (FixedBit 18))
-    (cond (not (irFlagsRight flags)) (Refused (FixedBit 19)) (Block (irSaid y1 delay expo lampshutter flags))))))
+    irDecided Refused (Block (irSaid y1 delay expo lampshutter flags)) y1 y2 delay expo lampshutter flags
 
 -- 11 where there are not 20 words, before all else.
 unfoldable pub irAnswerOf : List ℕ → IrAnswer
 irAnswerOf ws =
     let w : ℕ → ℕ = λ k. getD ws k 0 in
     cond (not (eqb (length ws) irWords)) (Refused Length) (irJudged (w 14) (w 15) (w 16) (w 17) (w 18) (w 19))
+
+-- By number and place: 11 at 0 where there are not 20 words, else 12 or 13 at the first faulty word, 0 at 0 where the block is read.
+unfoldable pub irTold : (Refusal → ℕ) → List ℕ → ℕ
+irTold told ws =
+    let w : ℕ → ℕ = λ k. getD ws k 0 in
+    cond (not (eqb (length ws) irWords)) (told Length) (irDecided told 0 (w 14) (w 15) (w 16) (w 17) (w 18) (w 19))
 
 -- The readings of a block that is read; a refused one gives none.
 unfoldable pub irReadingsOf : IrAnswer → List ℕ → List ℕ

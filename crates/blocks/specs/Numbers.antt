@@ -1,4 +1,5 @@
--- Document 01, "Blocks": the number and the place of each refusal. The place is the word's index from 0; for 11 and 21 it is 0.
+-- Document 01, "Blocks": the number and the place of each answer. The place is the word's index from 0; for 11 and 21 it is 0. A
+-- block that is written or read has number 0 and place 0.
 -- Assumes nothing.
 use Prim.Native.Nat.{ℕ}
 use Rattle.blocks.specs.declared.refusal.Refusal.{Refusal}
@@ -12,31 +13,51 @@ use Rattle.blocks.specs.declared.ccd.CcdAnswer.the-variants as ccd
 use Rattle.blocks.specs.declared.due.DueWritten.{DueWritten}
 use Rattle.blocks.specs.declared.due.DueWritten.the-variants as due
 
-unfoldable pub refusalNumber : Refusal → ℕ
+abbrev pub refusalNumber : Refusal → ℕ
 refusalNumber Length = 11
 refusalNumber (FixedBit p) = 12
 refusalNumber (OutOfRange p) = 13
 refusalNumber State = 21
 
-unfoldable pub refusalPlace : Refusal → ℕ
+abbrev pub refusalPlace : Refusal → ℕ
 refusalPlace Length = 0
 refusalPlace (FixedBit p) = p
 refusalPlace (OutOfRange p) = p
 refusalPlace State = 0
 
--- 0 where a block is written or read, and where none is due.
-unfoldable pub writtenNumber : Written → ℕ
+abbrev pub writtenNumber : Written → ℕ
 writtenNumber written.Done = 0
 writtenNumber (written.Refused r) = refusalNumber r
 
-unfoldable pub irNumber : IrAnswer → ℕ
+abbrev pub writtenPlace : Written → ℕ
+writtenPlace written.Done = 0
+writtenPlace (written.Refused r) = refusalPlace r
+
+abbrev pub irNumber : IrAnswer → ℕ
 irNumber (ir.Block m) = 0
 irNumber (ir.Refused r) = refusalNumber r
 
-unfoldable pub ccdNumber : CcdAnswer → ℕ
+abbrev pub irPlace : IrAnswer → ℕ
+irPlace (ir.Block m) = 0
+irPlace (ir.Refused r) = refusalPlace r
+
+abbrev pub ccdNumber : CcdAnswer → ℕ
 ccdNumber (ccd.Block m) = 0
 ccdNumber (ccd.Refused r) = refusalNumber r
 
-unfoldable pub dueWrittenNumber : DueWritten → ℕ
-dueWrittenNumber due.NotDue = 0
+abbrev pub ccdPlace : CcdAnswer → ℕ
+ccdPlace (ccd.Block m) = 0
+ccdPlace (ccd.Refused r) = refusalPlace r
+
+-- Where no block is due. Document 01 has no number for that: this one is ours, and tells it from blocks that are written (0) and
+-- from each refusal.
+abbrev pub notDueNumber : ℕ
+notDueNumber = 255
+
+abbrev pub dueWrittenNumber : DueWritten → ℕ
+dueWrittenNumber due.NotDue = notDueNumber
 dueWrittenNumber (due.Blocks w) = writtenNumber w
+
+abbrev pub dueWrittenPlace : DueWritten → ℕ
+dueWrittenPlace due.NotDue = 0
+dueWrittenPlace (due.Blocks w) = writtenPlace w

@@ -17,8 +17,9 @@ use words::kinds::WIN_Y2;
 ghost use Prim.Native.Nat.{_≤_};
 ghost use mathlib.Core.Path.{_≡_};
 ghost use lib.ListN.{length, take};
-ghost use Rattle.blocks.specs.Written.{writtenOf, bufferAfter};
-ghost use Rattle.blocks.specs.Ccd.{ccdWords, ccdReadings, cosineRight, ccdShown, ccdSaid, ccdStatus, ccdBlockOf, ccdRestJudged, ccdJudged, ccdReadOf};
+ghost use Rattle.blocks.specs.Numbers.{refusalNumber, refusalPlace, writtenNumber, writtenPlace, ccdNumber, ccdPlace};
+ghost use Rattle.blocks.specs.Written.{writtenOf, writeNumber, bufferAfter};
+ghost use Rattle.blocks.specs.Ccd.{ccdWords, ccdReadings, cosineRight, ccdShown, ccdSaid, ccdStatus, ccdBlockOf, ccdRestJudged, ccdJudged, ccdReadOf, ccdTold};
 
 pub const CCD_WORDS: usize = 25;
 
@@ -51,6 +52,27 @@ pub struct CcdMeaning {
 pub enum CcdAnswer {
     Block(CcdMeaning),
     Refused(Refusal),
+}
+
+impl CcdAnswer {
+    // Document 01's number; 0 where the block is read.
+    pub fn number(self) -> u8
+        ensures { λ r. ⌜ r ≡ ccdNumber self ⌝ }
+    {
+        match self {
+            CcdAnswer::Block(_) => 0,
+            CcdAnswer::Refused(refusal) => refusal.number(),
+        }
+    }
+
+    pub fn place(self) -> usize
+        ensures { λ r. ⌜ r ≡ ccdPlace self ⌝ }
+    {
+        match self {
+            CcdAnswer::Block(_) => 0,
+            CcdAnswer::Refused(refusal) => refusal.place(),
+        }
+    }
 }
 
 // The readings are all 0 where the block is refused.
@@ -186,6 +208,8 @@ fn readings_of(words: &[u16]) -> [u16; 16]
 
 pub fn read_ccd(words: &[u16]) -> CcdRead
     ensures { λ r. ⌜ r ≡ ccdReadOf (now (words .entry)) ⌝ }
+    ensures { λ r. ⌜ ccdNumber (r .answer) ≡ ccdTold refusalNumber (now (words .entry)) ⌝ }
+    ensures { λ r. ⌜ ccdPlace (r .answer) ≡ ccdTold refusalPlace (now (words .entry)) ⌝ }
 {
     if words.len() != CCD_WORDS {
         let none = [0u16; 16];
@@ -230,6 +254,8 @@ pub fn write_ccd(
     buffer: &mut [u16],
 ) -> Written
     ensures { λ r. ⌜ r ≡ writtenOf ccdWords head (now (buffer .entry)) ⌝ }
+    ensures { λ r. ⌜ writtenNumber r ≡ writeNumber ccdWords head (now (buffer .entry)) ⌝ }
+    ensures { λ r. ⌜ writtenPlace r ≡ 0 ⌝ }
     ensures { λ r. ⌜ now (buffer .exit) ≡ bufferAfter r (ccdBlockOf head flags acquired readings bits) (now (buffer .entry)) ⌝ }
 {
     let status = CcdMeaning::shown(head, flags, acquired, bits).status();

@@ -12,10 +12,11 @@ use head::state::Task;
 use head::tick::Due;
 use head::tick::Ticked;
 ghost use mathlib.Core.Path.{_≡_};
+ghost use Rattle.blocks.specs.Numbers.{writtenNumber, writtenPlace, dueWrittenNumber, dueWrittenPlace};
 ghost use Rattle.blocks.specs.Written.{bufferAfter};
 ghost use Rattle.blocks.specs.Ir.{irBlockOf};
 ghost use Rattle.blocks.specs.Ccd.{ccdBlockOf};
-ghost use Rattle.blocks.specs.Due.{acquisition, bothWrittenOf, dueWrittenOf, irDueAfter, ccdDueAfter};
+ghost use Rattle.blocks.specs.Due.{acquisition, bothWrittenOf, bothNumber, dueWrittenOf, dueNumber, irDueAfter, ccdDueAfter};
 
 // What the caller gives for both blocks.
 pub struct Given {
@@ -28,6 +29,30 @@ pub struct Given {
 pub enum DueWritten {
     NotDue,
     Blocks(Written),
+}
+
+// Where no block is due: document 01 has no number for that, and this one tells it from 0, blocks that are written.
+pub const NOT_DUE: u8 = 255;
+
+impl DueWritten {
+    // Document 01's number; 0 where both blocks are written.
+    pub fn number(self) -> u8
+        ensures { λ r. ⌜ r ≡ dueWrittenNumber self ⌝ }
+    {
+        match self {
+            DueWritten::NotDue => NOT_DUE,
+            DueWritten::Blocks(written) => written.number(),
+        }
+    }
+
+    pub fn place(self) -> usize
+        ensures { λ r. ⌜ r ≡ dueWrittenPlace self ⌝ }
+    {
+        match self {
+            DueWritten::NotDue => 0,
+            DueWritten::Blocks(written) => written.place(),
+        }
+    }
 }
 
 fn is_acquisition(ended: Task) -> bool
@@ -50,6 +75,8 @@ pub fn write_both(
     ccd: &mut [u16],
 ) -> Written
     ensures { λ r. ⌜ r ≡ bothWrittenOf head (now (ir .entry)) (now (ccd .entry)) ⌝ }
+    ensures { λ r. ⌜ writtenNumber r ≡ bothNumber head (now (ir .entry)) (now (ccd .entry)) ⌝ }
+    ensures { λ r. ⌜ writtenPlace r ≡ 0 ⌝ }
     ensures { λ r. ⌜ now (ir .exit) ≡ bufferAfter r (irBlockOf head flags acquired (given .irreadings) (given .irbits)) (now (ir .entry)) ⌝ }
     ensures { λ r. ⌜ now (ccd .exit) ≡ bufferAfter r (ccdBlockOf head flags acquired (given .ccdreadings) (given .ccdbits)) (now (ccd .entry)) ⌝ }
 {
@@ -70,6 +97,8 @@ pub fn write_both(
 // Writes both blocks where they are due, with the caller's readings and bits; else neither buffer is touched.
 pub fn write_due(ticked: Ticked, given: Given, ir: &mut [u16], ccd: &mut [u16]) -> DueWritten
     ensures { λ r. ⌜ r ≡ dueWrittenOf (ticked .head) (ticked .due) (now (ir .entry)) (now (ccd .entry)) ⌝ }
+    ensures { λ r. ⌜ dueWrittenNumber r ≡ dueNumber (ticked .head) (ticked .due) (now (ir .entry)) (now (ccd .entry)) ⌝ }
+    ensures { λ r. ⌜ dueWrittenPlace r ≡ 0 ⌝ }
     ensures { λ _. ⌜ now (ir .exit) ≡ irDueAfter (ticked .head) (ticked .due) (given .irreadings) (given .irbits) (now (ir .entry)) (now (ccd .entry)) ⌝ }
     ensures { λ _. ⌜ now (ccd .exit) ≡ ccdDueAfter (ticked .head) (ticked .due) (given .ccdreadings) (given .ccdbits) (now (ir .entry)) (now (ccd .entry)) ⌝ }
 {

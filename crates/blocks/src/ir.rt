@@ -15,8 +15,9 @@ ghost use mathlib.Core.Path.{_≡_};
 ghost use mathlib.Core.Bool.{cond};
 ghost use lib.Dec.{eqb};
 ghost use lib.ListN.{length, take};
-ghost use Rattle.blocks.specs.Written.{writtenOf, bufferAfter};
-ghost use Rattle.blocks.specs.Ir.{irWords, irReadings, linesRight, irShown, irSaid, irStatus, irBlockOf, irJudged, irReadOf};
+ghost use Rattle.blocks.specs.Numbers.{refusalNumber, refusalPlace, writtenNumber, writtenPlace, irNumber, irPlace};
+ghost use Rattle.blocks.specs.Written.{writtenOf, writeNumber, bufferAfter};
+ghost use Rattle.blocks.specs.Ir.{irWords, irReadings, linesRight, irShown, irSaid, irStatus, irBlockOf, irJudged, irReadOf, irTold};
 
 pub const IR_WORDS: usize = 20;
 
@@ -42,6 +43,27 @@ pub struct IrMeaning {
 pub enum IrAnswer {
     Block(IrMeaning),
     Refused(Refusal),
+}
+
+impl IrAnswer {
+    // Document 01's number; 0 where the block is read.
+    pub fn number(self) -> u8
+        ensures { λ r. ⌜ r ≡ irNumber self ⌝ }
+    {
+        match self {
+            IrAnswer::Block(_) => 0,
+            IrAnswer::Refused(refusal) => refusal.number(),
+        }
+    }
+
+    pub fn place(self) -> usize
+        ensures { λ r. ⌜ r ≡ irPlace self ⌝ }
+    {
+        match self {
+            IrAnswer::Block(_) => 0,
+            IrAnswer::Refused(refusal) => refusal.place(),
+        }
+    }
 }
 
 // The readings are all 0 where the block is refused.
@@ -159,6 +181,8 @@ fn readings_of(words: &[u16]) -> [u16; 14]
 
 pub fn read_ir(words: &[u16]) -> IrRead
     ensures { λ r. ⌜ r ≡ irReadOf (now (words .entry)) ⌝ }
+    ensures { λ r. ⌜ irNumber (r .answer) ≡ irTold refusalNumber (now (words .entry)) ⌝ }
+    ensures { λ r. ⌜ irPlace (r .answer) ≡ irTold refusalPlace (now (words .entry)) ⌝ }
 {
     if words.len() != IR_WORDS {
         let none = [0u16; 14];
@@ -197,6 +221,8 @@ pub fn write_ir(
     buffer: &mut [u16],
 ) -> Written
     ensures { λ r. ⌜ r ≡ writtenOf irWords head (now (buffer .entry)) ⌝ }
+    ensures { λ r. ⌜ writtenNumber r ≡ writeNumber irWords head (now (buffer .entry)) ⌝ }
+    ensures { λ r. ⌜ writtenPlace r ≡ 0 ⌝ }
     ensures { λ r. ⌜ now (buffer .exit) ≡ bufferAfter r (irBlockOf head flags acquired readings bits) (now (buffer .entry)) ⌝ }
 {
     let status = IrMeaning::shown(head, flags, acquired, bits).status();

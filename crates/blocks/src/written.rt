@@ -5,11 +5,33 @@ ghost use Prim.Native.Nat.{_+_};
 ghost use mathlib.Core.Path.{_≡_};
 ghost use mathlib.Core.List.{_++_};
 ghost use lib.ListN.{length};
+ghost use Rattle.blocks.specs.Numbers.{writtenNumber, writtenPlace};
 ghost use Rattle.blocks.specs.Written.{writtenIf, bufferAfter};
 
 pub enum Written {
     Done,
     Refused(Refusal),
+}
+
+impl Written {
+    // Document 01's number; 0 where the block is written.
+    pub fn number(self) -> u8
+        ensures { λ r. ⌜ r ≡ writtenNumber self ⌝ }
+    {
+        match self {
+            Written::Done => 0,
+            Written::Refused(refusal) => refusal.number(),
+        }
+    }
+
+    pub fn place(self) -> usize
+        ensures { λ r. ⌜ r ≡ writtenPlace self ⌝ }
+    {
+        match self {
+            Written::Done => 0,
+            Written::Refused(refusal) => refusal.place(),
+        }
+    }
 }
 
 // The buffer must have the block's length, and in_range says whether the state is in range.

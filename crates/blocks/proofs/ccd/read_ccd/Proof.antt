@@ -3,13 +3,14 @@
 use mathlib.Core.Path.{refl}
 use Rattle.blocks.specs.Ccd.{ccdRead, ccdReadOf, ccdAnswerOf, ccdReadingsOf}
 use Rattle.blocks.proofs.Judged.{unequal, equal, read-as}
+use Rattle.blocks.proofs.Numbered.{ccd-numbered}
 use borrow.Author.Needs.{needs}
 use Rattle.blocks.proofs.ccd.read_ccd.Statement.{statement}
 use Rattle.blocks.proofs.ccd.read_ccd.Tie as tie
 
 returns : tie.Need-returns
 unfolding ccdReadOf ccdAnswerOf ccdReadingsOf
-returns c = read-as ccdRead ccdReadingsOf _ _ _ _ _ (search (needs, unequal)) refl refl
+returns c = ccd-numbered _ _ (read-as ccdRead ccdReadingsOf _ _ _ _ _ (search (needs, unequal)) refl refl)
 
 shared-slice-read-judge : tie.Need-shared-slice-read-judge
 shared-slice-read-judge c = search needs
@@ -49,14 +50,14 @@ enum-told-2 c = search needs
 
 returns-2 : tie.Need-returns-2
 unfolding ccdReadOf ccdAnswerOf ccdReadingsOf
-returns-2 c = search (needs, equal, read-as ccdRead ccdReadingsOf)
+returns-2 c = ccd-numbered _ _ (search (needs, equal, read-as ccdRead ccdReadingsOf))
 
 readings-of-requires : tie.Need-readings-of-requires
 readings-of-requires c κs = search needs
 
 returns-3 : tie.Need-returns-3
 unfolding ccdReadOf ccdAnswerOf ccdReadingsOf
-returns-3 c = search (needs, equal, read-as ccdRead ccdReadingsOf)
+returns-3 c = ccd-numbered _ _ (search (needs, equal, read-as ccdRead ccdReadingsOf))
 
 pub read-ccd-spec : {M : Type 1} → statement M
 read-ccd-spec =

@@ -3,6 +3,7 @@
 use mathlib.Core.Path.{_∙_}
 use Rattle.blocks.specs.Written.{writtenOf}
 use Rattle.blocks.specs.Ccd.{ccdBlockOf}
+use Rattle.blocks.proofs.Numbered.{write-numbered}
 use Rattle.blocks.proofs.Writing.{written-by}
 use borrow.Author.Needs.{needs}
 use Rattle.blocks.proofs.ccd.write_ccd.Statement.{statement}
@@ -34,7 +35,8 @@ unfolding ccdBlockOf writtenOf
 returns c =
     let at-block = c .before .before in
     let at-status = at-block .before .before .before .before .before in
-    (search (needs, written-by 16 9, slice-aggregate-write-block), at-block .write-block .ensures .1 ∙ rw (at-status .status .ensures, at-status .before .shown .ensures))
+    write-numbered _ _ _ _ (search (needs, written-by 16 9, slice-aggregate-write-block))
+    (at-block .write-block .ensures .1 ∙ rw (at-status .status .ensures, at-status .before .shown .ensures))
 
 pub write-ccd-spec : {M : Type 1} → statement M
 write-ccd-spec =

@@ -1,9 +1,10 @@
 -- `blocks::due::write_both` meets its contract.
 -- Assumes nothing.
-use mathlib.Core.Path.{_∙_}
+use mathlib.Core.Path.{refl, _∙_}
 use Rattle.blocks.specs.Written.{bufferAfter}
 use Rattle.blocks.specs.Due.{bothWrittenOf}
 use Rattle.blocks.proofs.Judged.{unequal, equal}
+use Rattle.blocks.proofs.Numbered.{both-numbered}
 use Rattle.blocks.proofs.Writing.{untouched, as-well}
 use borrow.Author.Needs.{needs}
 use Rattle.blocks.proofs.due.write_both.Statement.{statement}
@@ -11,7 +12,7 @@ use Rattle.blocks.proofs.due.write_both.Tie as tie
 
 returns : tie.Need-returns
 unfolding bothWrittenOf bufferAfter
-returns c = search (needs, unequal)
+returns c = both-numbered _ _ _ _ (search (needs, unequal)) (refl, refl)
 
 write-ir-requires : tie.Need-write-ir-requires
 write-ir-requires c κs = search needs
@@ -28,10 +29,9 @@ same-length c = search needs
 returns-2 : tie.Need-returns-2
 unfolding bothWrittenOf
 returns-2 c =
-    let at-write-ir = c .before .before .before .before in (
-      search (needs, equal),
-      (at-write-ir .write-ir .ensures .1, untouched _ _ _ _ (c .enum-told2 .given .1)),
-    )
+    let at-write-ir = c .before .before .before .before in
+    both-numbered _ _ _ _ (search (needs, equal))
+    (at-write-ir .write-ir .ensures .1 .1 .1, untouched _ _ _ _ (c .enum-told2 .given .1))
 
 write-ccd-requires : tie.Need-write-ccd-requires
 write-ccd-requires c κs = search needs
@@ -52,7 +52,7 @@ returns-3 c =
     let first = at-write-ir .write-ir .ensures in
     let second = at-write-ccd .write-ccd .ensures in
     let same = as-well _ 20 25 _ _ _ _ (first .0) (at-enum-told .enum-told .given .1) sized (second .0) in
-    (equal _ _ _ _ _ sized (same ∙ first .0), (rw same (first .1), second .1))
+    both-numbered _ _ _ _ (equal _ _ _ _ _ sized (same ∙ first .0)) (rw same (first .1 .1 .1), second .1 .1 .1)
 
 pub write-both-spec : {M : Type 1} → statement M
 write-both-spec =

@@ -17,6 +17,7 @@ use Rattle.blocks.specs.declared.ir.IrBits.{IrBits}
 use Rattle.blocks.specs.declared.ccd.CcdBits.{CcdBits}
 use Rattle.blocks.specs.declared.due.DueWritten.the-variants.{Blocks}
 use Rattle.blocks.specs.Due.{acquisition, bothWrittenOf, dueWrittenOf, irDueAfter, ccdDueAfter}
+use Rattle.blocks.proofs.Numbered.{due-numbered}
 use borrow.Author.Needs.{needs}
 use Rattle.blocks.proofs.due.write_due.Statement.{statement}
 use Rattle.blocks.proofs.due.write_due.Tie as tie
@@ -38,7 +39,7 @@ enum-told-2 c = search needs
 
 returns : tie.Need-returns
 unfolding dueWrittenOf irDueAfter ccdDueAfter
-returns c = (rw (c .enum-told .given .1), (rw (c .enum-told .given .1), rw (c .enum-told .given .1)))
+returns c = due-numbered _ _ _ _ _ (rw (c .enum-told .given .1)) (rw (c .enum-told .given .1), rw (c .enum-told .given .1))
 
 same-length : tie.Need-same-length
 same-length c = search needs
@@ -65,14 +66,14 @@ returns-2 c =
     let at-acquisition = at-both .before .before .before in
     let told = at-acquisition .before .before .due .given .1 in
     let first = at-acquisition .is-acquisition .ensures in
-    let wrote = at-both .write-both .ensures in (
-      blocks-due _ _ _ _ _ _ _ _ told first (wrote .0),
-      (ir-due _ _ _ _ _ _ _ _ told first (wrote .0) _ _ _ (wrote .1 .0), ccd-due _ _ _ _ _ _ _ _ told first (wrote .0) _ _ _ (wrote .1 .1)),
-    )
+    let wrote = at-both .write-both .ensures in
+    let left = wrote .1 .1 .1 in
+    due-numbered _ _ _ _ _ (blocks-due _ _ _ _ _ _ _ _ told first (wrote .0))
+    (ir-due _ _ _ _ _ _ _ _ told first (wrote .0) _ _ _ (left .0), ccd-due _ _ _ _ _ _ _ _ told first (wrote .0) _ _ _ (left .1))
 
 returns-3 : tie.Need-returns-3
 unfolding dueWrittenOf irDueAfter ccdDueAfter
-returns-3 c = (rw (c .enum-told2 .given .1), (rw (c .enum-told2 .given .1), rw (c .enum-told2 .given .1)))
+returns-3 c = due-numbered _ _ _ _ _ (rw (c .enum-told2 .given .1)) (rw (c .enum-told2 .given .1), rw (c .enum-told2 .given .1))
 
 pub write-due-spec : {M : Type 1} → statement M
 write-due-spec =

@@ -3,13 +3,14 @@
 use mathlib.Core.Path.{refl}
 use Rattle.blocks.specs.Ir.{irRead, irReadOf, irAnswerOf, irReadingsOf}
 use Rattle.blocks.proofs.Judged.{unequal, equal, read-as}
+use Rattle.blocks.proofs.Numbered.{ir-numbered}
 use borrow.Author.Needs.{needs}
 use Rattle.blocks.proofs.ir.read_ir.Statement.{statement}
 use Rattle.blocks.proofs.ir.read_ir.Tie as tie
 
 returns : tie.Need-returns
 unfolding irReadOf irAnswerOf irReadingsOf
-returns c = read-as irRead irReadingsOf _ _ _ _ _ (search (needs, unequal)) refl refl
+returns c = ir-numbered _ _ (read-as irRead irReadingsOf _ _ _ _ _ (search (needs, unequal)) refl refl)
 
 shared-slice-read-judge : tie.Need-shared-slice-read-judge
 shared-slice-read-judge c = search needs
@@ -40,14 +41,14 @@ enum-told-2 c = search needs
 
 returns-2 : tie.Need-returns-2
 unfolding irReadOf irAnswerOf irReadingsOf
-returns-2 c = search (needs, equal, read-as irRead irReadingsOf)
+returns-2 c = ir-numbered _ _ (search (needs, equal, read-as irRead irReadingsOf))
 
 readings-of-requires : tie.Need-readings-of-requires
 readings-of-requires c κs = search needs
 
 returns-3 : tie.Need-returns-3
 unfolding irReadOf irAnswerOf irReadingsOf
-returns-3 c = search (needs, equal, read-as irRead irReadingsOf)
+returns-3 c = ir-numbered _ _ (search (needs, equal, read-as irRead irReadingsOf))
 
 pub read-ir-spec : {M : Type 1} → statement M
 read-ir-spec =
