@@ -12,7 +12,7 @@ use Rattle.words.specs.Fields.{steps}
 use Rattle.words.specs.Kinds.{rows, least, greatest, allowed, mostSteps}
 use Rattle.words.proofs.Tests.{and-left, and-right}
 use Rattle.head.specs.Limits.{lengthOf, readoutOf}
-use Rattle.head.specs.Range.{all, registerTests, latchTests, motionTests, begunTests, place, workInRange, inRange}
+use Rattle.head.specs.Range.{allPass, registerTests, latchTests, motionTests, begunTests, place, workInRange, inRange}
 use Rattle.head.specs.declared.state.Settings.{Settings}
 use Rattle.head.specs.declared.state.Latches.{Latches}
 use Rattle.head.specs.declared.state.Motion.{Motion}
@@ -29,25 +29,25 @@ Each (b ∷ bs) = (b ≡ true) × Each bs
 both : (a b : Bool) → a ≡ true → b ≡ true → (a && b) ≡ true
 both a b p q = rw (p, q)
 
-first : (a : Bool) (bs : List Bool) → all a bs ≡ true → a ≡ true
-unfolding all
+first : (a : Bool) (bs : List Bool) → allPass a bs ≡ true → a ≡ true
+unfolding allPass
 first a [] h = h
 first a (b ∷ bs) h = and-left a b (first (a && b) bs h)
 
-each-from : (a : Bool) (bs : List Bool) → all a bs ≡ true → Each bs
-unfolding all
+each-from : (a : Bool) (bs : List Bool) → allPass a bs ≡ true → Each bs
+unfolding allPass
 each-from a [] h = tt
 each-from a (b ∷ bs) h = (and-right a b (first (a && b) bs h), each-from (a && b) bs h)
 
-pub each : (bs : List Bool) → all true bs ≡ true → Each bs
+pub each : (bs : List Bool) → allPass true bs ≡ true → Each bs
 each bs h = each-from true bs h
 
-all-from : (a : Bool) (bs : List Bool) → a ≡ true → Each bs → all a bs ≡ true
-unfolding all
+all-from : (a : Bool) (bs : List Bool) → a ≡ true → Each bs → allPass a bs ≡ true
+unfolding allPass
 all-from a [] p h = p
 all-from a (b ∷ bs) p h = all-from (a && b) bs (both a b p (h .0)) (h .1)
 
-pub all-of : (bs : List Bool) → Each bs → all true bs ≡ true
+pub all-of : (bs : List Bool) → Each bs → allPass true bs ≡ true
 all-of bs h = all-from true bs refl h
 
 pub record RegisterBounds (r : Settings) : Type 0 where
@@ -73,11 +73,11 @@ pub record RegisterBounds (r : Settings) : Type 0 where
   pub switch : r .switch ≤ 1
   pub direction : r .direction ≤ 1
 
-pub registers : (r : Settings) → all true (registerTests r) ≡ true → RegisterBounds r
+pub registers : (r : Settings) → allPass true (registerTests r) ≡ true → RegisterBounds r
 unfolding registerTests greatest least rows
 registers r h = let e = each (registerTests r) h in omega (arith, leb-true)
 
-pub registers-back : (r : Settings) → RegisterBounds r → all true (registerTests r) ≡ true
+pub registers-back : (r : Settings) → RegisterBounds r → allPass true (registerTests r) ≡ true
 unfolding registerTests greatest least rows
 registers-back r h = all-of (registerTests r) (omega (arith, le-leb))
 
@@ -85,11 +85,11 @@ pub record LatchBounds (l : Latches) : Type 0 where
   pub vdetcom : l .vdetcom ≤ 15
   pub vdetadj : l .vdetadj ≤ 15
 
-pub latched : (l : Latches) → all true (latchTests l) ≡ true → LatchBounds l
+pub latched : (l : Latches) → allPass true (latchTests l) ≡ true → LatchBounds l
 unfolding latchTests greatest rows
 latched l h = let e = each (latchTests l) h in omega (arith, leb-true)
 
-pub latched-back : (l : Latches) → LatchBounds l → all true (latchTests l) ≡ true
+pub latched-back : (l : Latches) → LatchBounds l → allPass true (latchTests l) ≡ true
 unfolding latchTests greatest rows
 latched-back l h = all-of (latchTests l) (omega (arith, le-leb))
 
@@ -97,11 +97,11 @@ pub record MotionBounds (m : Motion) : Type 0 where
   pub mirror : m .mirror ≤ 30
   pub cover : m .cover ≤ 2025
 
-pub motions : (m : Motion) → all true (motionTests m) ≡ true → MotionBounds m
+pub motions : (m : Motion) → allPass true (motionTests m) ≡ true → MotionBounds m
 unfolding motionTests
 motions m h = let e = each (motionTests m) h in omega (arith, leb-true)
 
-pub motions-back : (m : Motion) → MotionBounds m → all true (motionTests m) ≡ true
+pub motions-back : (m : Motion) → MotionBounds m → allPass true (motionTests m) ≡ true
 unfolding motionTests
 motions-back m h = all-of (motionTests m) (omega (arith, le-leb))
 
@@ -153,7 +153,7 @@ pub record BegunBounds (g : Begun) : Type 0 where
   pub noSinl : g .count < 2 → g .sinl ≡ 0
   pub noCosm : g .count < 3 → g .cosm ≡ 0
 
-pub begun : (g : Begun) → all true (begunTests g) ≡ true → BegunBounds g
+pub begun : (g : Begun) → allPass true (begunTests g) ≡ true → BegunBounds g
 unfolding begunTests greatest rows
 begun g h =
     let e = each (begunTests g) h in
@@ -167,7 +167,7 @@ begun g h =
       noCosm = place-empty (g .count) 3 kind.cosM (g .cosm) (e .1 .1 .1 .0);
     }
 
-pub begun-back : (g : Begun) → BegunBounds g → all true (begunTests g) ≡ true
+pub begun-back : (g : Begun) → BegunBounds g → allPass true (begunTests g) ≡ true
 unfolding begunTests greatest least rows
 begun-back g h =
     all-of (begunTests g) (
@@ -216,10 +216,10 @@ module _ (s : Head) where
   pub bounds : inRange s ≡ true → Bounds s
   unfolding inRange
   bounds h =
-      let a = all true (registerTests (s .settings)) in
-      let b = all true (latchTests (s .latches)) in
-      let c = all true (motionTests (s .motion)) in
-      let d = all true (begunTests (s .begun)) in
+      let a = allPass true (registerTests (s .settings)) in
+      let b = allPass true (latchTests (s .latches)) in
+      let c = allPass true (motionTests (s .motion)) in
+      let d = allPass true (begunTests (s .begun)) in
       let e = workInRange (s .work .task) (s .work .busy) in
       let abcd = and-left (a && b && c && d) e h in
       let abc = and-left (a && b && c) d abcd in

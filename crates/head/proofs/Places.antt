@@ -5,7 +5,7 @@ use mathlib.Core.Bool.{Bool, true, false, cond, _&&_, _||_}
 use Prim.Native.Nat.{ℕ, zero, suc}
 use lib.Dec.{leb, eqb, leb·zero, eqb·suc-zero}
 use Rattle.words.specs.Kinds.{rows, least, greatest, allowed}
-use Rattle.head.specs.Range.{place, all, begunTests}
+use Rattle.head.specs.Range.{place, allPass, begunTests}
 use Rattle.head.specs.declared.state.Begun.{Begun}
 
 -- a place whose kind's data start at 0 is decided by one comparison with the greatest, or by 0
@@ -28,8 +28,8 @@ pub begun-by : (b : Begun)
     && (leb 1 (b .count) && leb (b .sinm) 31 || eqb (b .sinm) 0)
     && (leb 2 (b .count) && leb (b .sinl) 255 || eqb (b .sinl) 0)
     && (leb 3 (b .count) && leb (b .cosm) 15 || eqb (b .cosm) 0))
-    ≡ all true (begunTests b)
-unfolding all begunTests least greatest rows
+    ≡ allPass true (begunTests b)
+unfolding allPass begunTests least greatest rows
 begun-by b =
     rw (
       place-by (b .count) 1 22 (b .sinm) refl refl,

@@ -16,9 +16,10 @@ use Rattle.head.specs.declared.state.Task.{Task}
 use Rattle.head.specs.declared.state.Task.the-variants.{Idle, Acquisition, Housekeeping}
 use Rattle.head.specs.declared.state.Head.{Head}
 
-unfoldable pub all : Bool → List Bool → Bool
-all a [] = a
-all a (b ∷ bs) = all (a && b) bs
+-- Every test of the list holds, and those before it, a.
+unfoldable pub allPass : Bool → List Bool → Bool
+allPass a [] = a
+allPass a (b ∷ bs) = allPass (a && b) bs
 
 -- Every register could have come from allowed words.
 unfoldable pub registerTests : Settings → List Bool
@@ -75,8 +76,8 @@ workInRange Housekeeping n = leb 1 n && leb n hkTicks
 
 unfoldable pub inRange : Head → Bool
 inRange s =
-    all true (registerTests (s .settings))
-    && all true (latchTests (s .latches))
-    && all true (motionTests (s .motion))
-    && all true (begunTests (s .begun))
+    allPass true (registerTests (s .settings))
+    && allPass true (latchTests (s .latches))
+    && allPass true (motionTests (s .motion))
+    && allPass true (begunTests (s .begun))
     && workInRange (s .work .task) (s .work .busy)

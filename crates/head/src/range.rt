@@ -8,11 +8,11 @@ use crate::state::Task;
 use crate::state::Work;
 ghost use mathlib.Core.Path.{_≡_};
 ghost use mathlib.Core.Bool.{true};
-ghost use Rattle.head.specs.Range.{all, registerTests, latchTests, motionTests, begunTests, workInRange, inRange, place};
+ghost use Rattle.head.specs.Range.{allPass, registerTests, latchTests, motionTests, begunTests, workInRange, inRange, place};
 
 impl Settings {
     pub fn in_range(self) -> bool
-        ensures { λ r. ⌜ r ≡ all true (registerTests self) ⌝ }
+        ensures { λ r. ⌜ r ≡ allPass true (registerTests self) ⌝ }
     {
         (self.detector <= Head::MOST_BIT)
             & (self.mode <= Head::MOST_BIT)
@@ -40,7 +40,7 @@ impl Settings {
 
 impl Latches {
     pub fn in_range(self) -> bool
-        ensures { λ r. ⌜ r ≡ all true (latchTests self) ⌝ }
+        ensures { λ r. ⌜ r ≡ allPass true (latchTests self) ⌝ }
     {
         (self.vdetcom <= Head::MOST_LATCH) & (self.vdetadj <= Head::MOST_LATCH)
     }
@@ -48,7 +48,7 @@ impl Latches {
 
 impl Motion {
     pub fn in_range(self) -> bool
-        ensures { λ r. ⌜ r ≡ all true (motionTests self) ⌝ }
+        ensures { λ r. ⌜ r ≡ allPass true (motionTests self) ⌝ }
     {
         (self.mirror <= Head::MIRROR_TICKS) & (self.cover <= Head::MOST_COVER_TICKS)
     }
@@ -56,7 +56,7 @@ impl Motion {
 
 impl Begun {
     pub fn in_range(self) -> bool
-        ensures { λ r. ⌜ r ≡ all true (begunTests self) ⌝ }
+        ensures { λ r. ⌜ r ≡ allPass true (begunTests self) ⌝ }
     {
         let first = ((1 <= self.count) & (self.sinm <= Head::MOST_SIN_M)) | (self.sinm == 0);
         let second = ((2 <= self.count) & (self.sinl <= Head::MOST_SIN_L)) | (self.sinl == 0);

@@ -2,12 +2,12 @@
 -- Assumes nothing.
 use mathlib.Core.Path.{refl}
 use Rattle.words.specs.Kinds.{rows, least, greatest}
-use Rattle.head.specs.Range.{all, latchTests}
+use Rattle.head.specs.Range.{allPass, latchTests}
 use Rattle.head.proofs.state.Latches.in_range.Statement.{statement}
 use Rattle.head.proofs.state.Latches.in_range.Tie as tie
 
 returns : tie.Need-returns
-unfolding all latchTests least greatest rows
+unfolding allPass latchTests least greatest rows
 returns c = refl
 
 pub in-range-spec : {M : Type 1} → statement M

@@ -2,12 +2,12 @@
 -- Assumes nothing.
 use mathlib.Core.Path.{refl}
 use Rattle.words.specs.Kinds.{rows, least, greatest}
-use Rattle.head.specs.Range.{all, motionTests}
+use Rattle.head.specs.Range.{allPass, motionTests}
 use Rattle.head.proofs.state.Motion.in_range.Statement.{statement}
 use Rattle.head.proofs.state.Motion.in_range.Tie as tie
 
 returns : tie.Need-returns
-unfolding all motionTests least greatest rows
+unfolding allPass motionTests least greatest rows
 returns c = refl
 
 pub in-range-spec : {M : Type 1} → statement M
