@@ -7,7 +7,7 @@ use Prim.Native.Nat.{ℕ, _+_, _*_, _/_, _%_, _<_, _≤_}
 use native.Mathlib.Omega.{arith}
 use lib.Dec.{lit≤}
 use Rattle.words.specs.Kinds.{rows, least, greatest, allowed}
-use Rattle.head.specs.Range.{inRange, all, registerTests, latchTests, motionTests, begunTests, place, workInRange}
+use Rattle.head.specs.Range.{inRange, allPass, registerTests, latchTests, motionTests, begunTests, place, workInRange}
 use Rattle.head.proofs.Bounds.{bounds, in-range, RegisterBounds}
 use Rattle.head.specs.State.{powerOn}
 use Rattle.blocks.specs.Status.{bit, isSet, sineWord, sineFields, composed}
@@ -39,7 +39,7 @@ bit-most true = omega arith
 bit-most false = omega arith
 
 power-on : inRange powerOn ≡ true
-unfolding inRange all registerTests latchTests motionTests begunTests place workInRange least greatest rows allowed
+unfolding inRange allPass registerTests latchTests motionTests begunTests place workInRange least greatest rows allowed
 power-on = refl
 
 module _ (m : IrMeaning) (n : CcdMeaning) where

@@ -16,7 +16,7 @@ use mir.Syntax.{w16}
 use mir.Val.{Fits}
 use Rattle.words.proofs.Tests.{and-left, and-right}
 use Rattle.head.specs.State.{noneBegun, noFlags}
-use Rattle.head.specs.Range.{all, registerTests, latchTests, motionTests, begunTests, workInRange, inRange}
+use Rattle.head.specs.Range.{allPass, registerTests, latchTests, motionTests, begunTests, workInRange, inRange}
 use Rattle.head.specs.Limits.{lengthBy, lengthOf}
 use Rattle.head.specs.Apply.{after}
 use Rattle.head.specs.Word.{marked}
@@ -30,8 +30,8 @@ use Rattle.interface.specs.InPlace.{registers, registerOf, controlled, m
 use Rattle.interface.proofs.RoundTrip.{well-formed-length, numbers-state}
 
 parts : (h : Head) (a b c d e : Bool)
-    → a ≡ all true (registerTests (h .settings)) → b ≡ all true (latchTests (h .latches)) → c ≡ all true (motionTests (h .motion))
-    → d ≡ all true (begunTests (h .begun)) → e ≡ workInRange (h .work .task) (h .work .busy)
+    → a ≡ allPass true (registerTests (h .settings)) → b ≡ allPass true (latchTests (h .latches)) → c ≡ allPass true (motionTests (h .motion))
+    → d ≡ allPass true (begunTests (h .begun)) → e ≡ workInRange (h .work .task) (h .work .busy)
     → (a && b && c && d && e) ≡ inRange h
 unfolding inRange
 parts h a b c d e ea eb ec ed ee = rw (ea, eb, ec, ed, ee)
@@ -43,8 +43,8 @@ module _ (l : List ℕ) (i : Bool) (is : i ≡ wellFormed l) where
   not-valid bad = rw (sym is ∙ not-true i bad)
 
   pub valid-parts : not i ≡ false → (h : Head) → h ≡ stateOf l → (a b c d e : Bool)
-      → a ≡ all true (registerTests (h .settings)) → b ≡ all true (latchTests (h .latches)) → c ≡ all true (motionTests (h .motion))
-      → d ≡ all true (begunTests (h .begun)) → e ≡ workInRange (h .work .task) (h .work .busy)
+      → a ≡ allPass true (registerTests (h .settings)) → b ≡ allPass true (latchTests (h .latches)) → c ≡ allPass true (motionTests (h .motion))
+      → d ≡ allPass true (begunTests (h .begun)) → e ≡ workInRange (h .work .task) (h .work .busy)
       → (a && b && c && d && e) ≡ valid l
   unfolding valid
   valid-parts good h loaded a b c d e ea eb ec ed ee =

@@ -8,7 +8,7 @@ use borrow.Author.Tests.{le-ltb}
 use lib.ListN.{length}
 use Rattle.words.specs.Kinds.{least, greatest}
 use Rattle.head.specs.State.{powerOn}
-use Rattle.head.specs.Range.{all, registerTests, latchTests, motionTests, place, begunTests, workInRange, inRange}
+use Rattle.head.specs.Range.{allPass, registerTests, latchTests, motionTests, place, begunTests, workInRange, inRange}
 use Rattle.plan.specs.Reading.{settingsRead, logRead}
 use Rattle.plan.specs.Stored.{orders, planOf}
 use Rattle.plan.specs.Words.{itemsOfAll}
@@ -23,7 +23,7 @@ use Rattle.run.proofs.Equal.{compared-equal}
 use Rattle.text.specs.Sheet.{sheetOf, comparedText, sheetFor}
 
 on-fit : fit powerOn ≡ true
-unfolding fit atRest inRange all registerTests latchTests motionTests place begunTests workInRange least greatest
+unfolding fit atRest inRange allPass registerTests latchTests motionTests place begunTests workInRange least greatest
 on-fit = refl
 
 module _ (bs : List ℕ) (os : List Order) (few : length bs ≤ 4096) (e : planOf bs ≡ orders os) where

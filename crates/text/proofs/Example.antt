@@ -6,7 +6,7 @@ use mathlib.Core.List.{List, [], _∷_, _++_}
 use Rattle.words.specs.Kinds.{rows, kindFrom, kindOf, kinds, least, greatest, allowed}
 use Rattle.words.specs.Codec.{decodeOf, judged, wordOf}
 use Rattle.head.specs.Limits.{lengthOf, readoutOf}
-use Rattle.head.specs.Range.{all, registerTests, latchTests, motionTests, place, begunTests, workInRange, inRange}
+use Rattle.head.specs.Range.{allPass, registerTests, latchTests, motionTests, place, begunTests, workInRange, inRange}
 use Rattle.head.specs.Apply.{after, actOf}
 use Rattle.head.specs.Word.{outOfTurn, onWord, onDecoded, answerOf}
 use Rattle.head.specs.Tick.{tickOf, ticksOf, passed}
@@ -38,7 +38,7 @@ unfolding printedFor answerText listingOf headLine wordLines wordLine endLine as
     translateOf answerOfPlan fit scheduleOf scheduleFrom readied spanOf sent ready atRest isTaken delayOf delayWithin
     planOf headerFault ordersFrom faultAt orderAt fieldAt countOf widthOf known orderLength fieldsFit within related
     itemsOfAll itemsOf wordsOf sineRegister answerOf onDecoded onWord outOfTurn after actOf tickOf ticksOf passed
-    inRange all registerTests latchTests motionTests place begunTests workInRange lengthOf readoutOf
+    inRange allPass registerTests latchTests motionTests place begunTests workInRange lengthOf readoutOf
     decodeOf judged kindOf kindFrom kinds rows least greatest allowed wordOf
 example-listed = refl
 
@@ -60,6 +60,6 @@ unfolding sheetFor comparedText sheetOf actsHeadLine settingsLine endTimeLine eq
     translateOf answerOfPlan fit scheduleOf scheduleFrom readied spanOf sent ready atRest isTaken delayOf delayWithin
     planOf headerFault ordersFrom faultAt orderAt fieldAt countOf widthOf known orderLength fieldsFit within related
     itemsOfAll itemsOf wordsOf sineRegister answerOf onDecoded onWord outOfTurn after actOf tickOf ticksOf passed
-    inRange all registerTests latchTests motionTests place begunTests workInRange lengthOf readoutOf
+    inRange allPass registerTests latchTests motionTests place begunTests workInRange lengthOf readoutOf
     decodeOf judged kindOf kindFrom kinds rows least greatest allowed wordOf
 example-rehearsed = refl
