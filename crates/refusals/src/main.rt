@@ -2,12 +2,13 @@
 use head::state::Head;
 use libc::STDOUT_FILENO;
 use schedule::Translated;
+use schedule::translate::MOST_WORDS;
 use schedule::translate::translate;
 use text::lines::refusal_line;
 
-fn print_refusal(number: u8, place: usize) {
+fn print_refusal(answer: Translated) {
     let mut line = [0u8; 53];
-    let n = refusal_line(number, place, &mut line);
+    let n = refusal_line(answer.number(), answer.place(), &mut line);
     io::write_all(STDOUT_FILENO, &line[..n]);
 }
 
@@ -20,17 +21,20 @@ fn print_count(count: usize) {
 fn show(answer: Translated) {
     match answer {
         Translated::Done { count, end: _ } => print_count(count),
-        Translated::Refused { number, place } => print_refusal(number, place),
+        Translated::Refused {
+            number: _,
+            place: _,
+        } => print_refusal(answer),
         Translated::Short { count } => {
-            print_refusal(10, 0);
+            print_refusal(answer);
             print_count(count);
         }
     }
 }
 
 fn translated(head: Head, plan: &[u8]) -> Translated {
-    let mut words = [0u16; 256];
-    let mut ticks = [0u32; 256];
+    let mut words = [0u16; MOST_WORDS];
+    let mut ticks = [0u32; MOST_WORDS];
     translate(head, plan, &mut words, &mut ticks)
 }
 

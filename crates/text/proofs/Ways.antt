@@ -14,7 +14,7 @@ use Rattle.head.specs.State.{powerOn}
 use Rattle.head.specs.declared.state.Head.{Head}
 use Rattle.plan.specs.Stored.{Plan, orders, refused, planOf}
 use Rattle.schedule.specs.Schedule.{Timed, Schedule}
-use Rattle.schedule.specs.Translate.{fit, scheduleOf, answerOfPlan, translateOf, filled, tickList, wordList, translatedNumber, translatedPlace}
+use Rattle.schedule.specs.Translate.{mostWords, fit, scheduleOf, answerOfPlan, translateOf, filled, tickList, wordList, translatedNumber, translatedPlace}
 use Rattle.schedule.specs.declared.Translated.{Translated}
 use Rattle.schedule.specs.declared.Translated.the-variants.{Done, Refused, Short}
 use Rattle.text.specs.Laid.{Laid, Front}
@@ -47,31 +47,33 @@ too-long bs h = rw (lt-ltb 4096 (length bs) h)
 pub record Answered (bs : List ℕ) (s : Head) (r : Translated) : Type 0 where
   pub few : length bs ≤ 4096
   pub on : s ≡ powerOn
-  pub is : r ≡ translateOf s bs 256 256
+  pub is : r ≡ translateOf s bs mostWords mostWords
 
 module _ {bs : List ℕ} {s : Head} {r : Translated} (h : Answered bs s r) where
   answered : printedFor bs ≡ answerText r (tickList (scheduleOf s (planOf bs))) (wordList (scheduleOf s (planOf bs)))
   unfolding printedFor
   answered = rw (le-ltb 4096 (length bs) (h .few), h .is, h .on)
 
-  pub of-refused : {n p : ℕ} → r ≡ Refused n p → printedFor bs ≡ refusalLine n p
+  -- not done: the number and the place of the answer
+  pub of-refused : ((n e : ℕ) → r ≡ Done n e → ⊥) → {n p : ℕ} → n ≡ translatedNumber r → p ≡ translatedPlace r → printedFor bs ≡ refusalLine n p
   unfolding answerText
-  of-refused e = answered ∙ rw e
-
-  pub of-short : {n : ℕ} → r ≡ Short n → printedFor bs ≡ refusalLine 10 0
-  unfolding answerText
-  of-short e = answered ∙ rw e
+  of-refused other {n} {p} is at = answered ∙ go r refl
+    where
+      go : (t : Translated) → r ≡ t → answerText r (tickList (scheduleOf s (planOf bs))) (wordList (scheduleOf s (planOf bs))) ≡ refusalLine n p
+      go (Done m e) k = absurd (other m e k)
+      go (Refused m q) k = rw (is, at, k)
+      go (Short m) k = rw (is, at, k)
 
   module _ {n e : ℕ} (done : r ≡ Done n e) where
-    counted : (n ≡ length (scheduleOf s (planOf bs) .list)) × (n ≤ 256)
+    counted : (n ≡ length (scheduleOf s (planOf bs) .list)) × (n ≤ mostWords)
     unfolding translateOf
     counted = go (fit s) refl
       where
-        go : (z : Bool) → fit s ≡ z → (n ≡ length (scheduleOf s (planOf bs) .list)) × (n ≤ 256)
-        go true p = done-count (scheduleOf s (planOf bs)) (planOf bs) 256 256 n e (sym (rw p at (h .is)) ∙ done)
+        go : (z : Bool) → fit s ≡ z → (n ≡ length (scheduleOf s (planOf bs) .list)) × (n ≤ mostWords)
+        go true p = done-count (scheduleOf s (planOf bs)) (planOf bs) mostWords mostWords n e (sym (rw p at (h .is)) ∙ done)
         go false p = let z : _≡_ {A = ℕ} 0 1 = cc (rw p at (h .is)) in absurd (omega arith)
 
-    pub done-few : n ≤ 256
+    pub done-few : n ≤ mostWords
     done-few = counted .1
 
     -- the first places of a buffer are the values that filled them

@@ -5,6 +5,7 @@ use crate::lines::put_word_lines;
 use crate::numbers::put_bytes;
 use head::state::Head;
 use schedule::Translated;
+use schedule::translate::MOST_WORDS;
 use schedule::translate::translate;
 ghost use Prim.Native.Nat.{_+_, _*_, _≤_};
 ghost use lib.ListN.{length, take};
@@ -34,12 +35,11 @@ pub fn listing(plan: &[u8], out: &mut [u8; LONGEST]) -> usize
     if MOST_INPUT < plan.len() {
         return put_bytes(out, 0, b"input too long\n");
     }
-    let mut words = [0u16; 256];
-    let mut ticks = [0u32; 256];
+    let mut words = [0u16; MOST_WORDS];
+    let mut ticks = [0u32; MOST_WORDS];
     let answer = translate(Head::power_on(), plan, &mut words, &mut ticks);
     match answer {
         Translated::Done { count, end } => put_listing(out, &ticks, &words, count, end),
-        Translated::Refused { number, place } => put_refusal_line(out, number, place),
-        Translated::Short { count: _ } => put_refusal_line(out, 10, 0),
+        _ => put_refusal_line(out, answer.number(), answer.place()),
     }
 }

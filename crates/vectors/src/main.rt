@@ -4,27 +4,11 @@ use blocks::due::Given;
 use blocks::due::write_due;
 use blocks::ir::IrBits;
 use head::state::Head;
-use head::word::Cause;
-use head::word::Outcome;
 
-fn number_of(cause: Cause) -> u64 {
-    match cause {
-        Cause::State => 21,
-        Cause::Busy => 22,
-        Cause::CoverMoving => 22,
-        Cause::UnknownWord => 23,
-        Cause::Range => 24,
-        Cause::Turn => 25,
-    }
-}
-
-// 0 for a word that is taken.
+// The number of the head's answer; 0 for a word that is taken.
 fn answer(head: Head, word: u16) -> u64 {
     let outcome = head.word(word).outcome;
-    match outcome {
-        Outcome::Taken(_) => 0,
-        Outcome::Ignored(cause) => number_of(cause),
-    }
+    outcome.number() as u64
 }
 
 fn print_line(name: &[u8], number: u64) {

@@ -1,6 +1,7 @@
 -- `text::listing::listing` meets its contract: each way through the code is a law of `Ways`.
 -- Assumes nothing.
 use mathlib.Core.List.{List}
+use mathlib.Core.Logic.{inl, inr}
 use Prim.Native.Nat.{ℕ}
 use native.Mathlib.Omega.{arith}
 use denote.Ref.{now}
@@ -8,7 +9,7 @@ use Rattle.head.specs.declared.state.Head.{Head}
 use Rattle.schedule.specs.declared.Translated.{Translated}
 use Rattle.text.specs.Numbers.{ascii}
 use Rattle.text.specs.Lines.{tooLongLine}
-use Rattle.text.proofs.Ways.{told, too-long, Answered, of-refused, of-short, of-done, done-few}
+use Rattle.text.proofs.Ways.{told, too-long, Answered, of-refused, of-done, done-few}
 use borrow.Author.Needs.{needs}
 use Rattle.text.proofs.listing.listing.Statement.{statement}
 use Rattle.text.proofs.listing.listing.Tie as tie
@@ -71,17 +72,14 @@ put-listing-requires c κs =
     let few = done-few (answered t) (c .before .before .before .before .answer .given .1) in
     (omega arith, (omega arith, omega arith))
 
-enum-known-answer-2 : tie.Need-enum-known-answer-2
-enum-known-answer-2 c = search needs
+number-requires : tie.Need-number-requires
+number-requires c κs = search needs
+
+place-requires : tie.Need-place-requires
+place-requires c κs = search needs
 
 put-refusal-line-requires : tie.Need-put-refusal-line-requires
 put-refusal-line-requires c κs = search needs
-
-enum-told : tie.Need-enum-told
-enum-told c = search needs
-
-put-refusal-line-requires-2 : tie.Need-put-refusal-line-requires-2
-put-refusal-line-requires-2 c κs = search needs
 
 returns-2 : tie.Need-returns-2
 returns-2 c =
@@ -89,17 +87,18 @@ returns-2 c =
     let is = c .before .before .before .before .before .answer .given .1 in
     let filled = t .before .before .translate .ensures .1 in
     let few = done-few (answered t) is in
-    told (of-done (answered t) is _ _ (filled .1) (filled .0)) (c .put-listing .ensures .0) (omega arith)
+    told (of-done (answered t) is _ _ (filled .1 .0) (filled .0)) (c .put-listing .ensures .0) (omega arith)
 
 returns-3 : tie.Need-returns-3
 returns-3 c =
     let t = c .before .before .before .before .before in
-    told (of-refused (answered t) (c .before .before .before .answer2 .given .1)) (c .put-refusal-line .ensures .0) (omega arith)
-
-returns-4 : tie.Need-returns-4
-returns-4 c =
-    let t = c .before .before .before .before in
-    told (of-short (answered t) (c .before .before .enum-told .given .1)) (c .put-refusal-line2 .ensures .0) (omega arith)
+    let other = c .before .before .before .before .match .keys2 in
+    told
+    (of-refused (answered t) (λ n e is. elim (rw is at other) [ inl x ↦ omega arith | inr x ↦ omega arith ])
+    (c .before .before .number .ensures)
+    (c .before .place .ensures))
+    (c .put-refusal-line .ensures .0)
+    (omega arith)
 
 pub listing-spec : {M : Type 1} → statement M
 listing-spec =
@@ -116,10 +115,8 @@ listing-spec =
     slice-aggregate-put-listing
     slice-aggregate-put-listing-2
     put-listing-requires
-    enum-known-answer-2
+    number-requires
+    place-requires
     put-refusal-line-requires
-    enum-told
-    put-refusal-line-requires-2
     returns-2
-    returns-3
-    returns-4)
+    returns-3)

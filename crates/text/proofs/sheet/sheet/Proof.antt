@@ -63,7 +63,7 @@ slice-aggregate-put-sheet c =
 slice-aggregate-put-sheet-2 : tie.Need-slice-aggregate-put-sheet-2
 slice-aggregate-put-sheet-2 c =
     let t = c .before .before .before .before .before .before in
-    sym (times-kept (answered t) (c .before .before .before .before .answer .given .1) _ refl (t .compare .ensures .1 .1))
+    sym (times-kept (answered t) (c .before .before .before .before .answer .given .1) _ refl (t .compare .ensures .1 .1 .0))
 
 put-sheet-requires : tie.Need-put-sheet-requires
 put-sheet-requires c κs =
@@ -71,7 +71,7 @@ put-sheet-requires c κs =
     let done = c .before .before .before .before .answer .given .1 in
     let few = acts-few (answered t) done in
     let rows = rows-kept (answered t) done _ refl (t .compare .ensures .1 .0) in
-    let times = times-kept (answered t) done _ refl (t .compare .ensures .1 .1) in
+    let times = times-kept (answered t) done _ refl (t .compare .ensures .1 .1 .0) in
     (omega arith, (omega arith, omega arith))
 
 enum-known-answer-2 : tie.Need-enum-known-answer-2
@@ -85,7 +85,7 @@ returns-2 c =
     let t = c .before .before .before .before .before .before .before in
     let done = c .before .before .before .before .before .answer .given .1 in
     let few = acts-few (answered t) done in
-    told (sheet-done (answered t) done _ _ (t .compare .ensures .1 .0) (t .compare .ensures .1 .1)) (c .put-sheet .ensures .0) (omega arith)
+    told (sheet-done (answered t) done _ _ (t .compare .ensures .1 .0) (t .compare .ensures .1 .1 .0)) (c .put-sheet .ensures .0) (omega arith)
 
 returns-3 : tie.Need-returns-3
 returns-3 c = told (sheet-refused (answered (c .before .before .before .before .before)) (c .before .before .before .answer2 .given .1)) (c .put-refusal-line .ensures .0) (omega arith)
