@@ -47,14 +47,14 @@ pub fault-none : (bs : List ℕ) (at : ℕ) → length bs ≤ at → 5 ≡ fault
 unfolding faultAt
 fault-none bs at h = rw (← byte-past bs at h)
 
+pub fault-past : (bs : List ℕ) (at : ℕ) → length bs < at + 1 + byteAt bs at → 5 ≡ faultAt bs at
+unfolding faultAt
+fault-past bs at h = rw (lt-ltb (length bs) (at + 1 + byteAt bs at) h, or-true (eqb (byteAt bs at) 0))
+
 module _ (bs : List ℕ) (at size : ℕ) (is-size : size ≡ byteAt bs at) where
   pub fault-empty : size ≡ 0 → 5 ≡ faultAt bs at
   unfolding faultAt
   fault-empty h = rw (← is-size, h)
-
-  pub fault-past : length bs < at + 1 + size → 5 ≡ faultAt bs at
-  unfolding faultAt
-  fault-past h = rw (← is-size, lt-ltb (length bs) (at + 1 + size) h, or-true (eqb size 0))
 
   module _ (code : ℕ) (full : size ≡ 0 → ⊥) (ends : at + 1 + size ≤ length bs) (is-code : code ≡ byteAt bs (at + 1)) where
     fault-later : cond (not (known code)) 6

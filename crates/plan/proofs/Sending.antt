@@ -3,8 +3,8 @@
 use mathlib.Core.Path.{_≡_}
 use mathlib.Core.Bool.{false, _&&_}
 use mathlib.Core.List.{[]}
-use Prim.Native.Nat.{ℕ, zero, suc, _+_, _-_, _<_, _≤_}
-use native.Mathlib.Nat.{le-of-suc-le-suc}
+use Prim.Native.Nat.{ℕ, zero, suc, _+_, _-_, _%_, _<_, _≤_}
+use native.Mathlib.Nat.{le-of-suc-le-suc, mod-eq-of-lt}
 use native.Mathlib.Decide.{ℕ-discrete}
 use native.Mathlib.Omega.{arith}
 use borrow.Author.Tests.{ne-eqb, lt-ltb, le-ltb}
@@ -20,9 +20,9 @@ pub sine-plus : (a : ℕ) → a < 32768 → a ≡ sineRegister a
 unfolding sineRegister
 sine-plus a h = rw (lt-ltb a 32768 h)
 
-pub sine-minus : (a : ℕ) → 32768 ≤ a → a < 65536 → 4097 + (65535 - a) ≡ sineRegister a
+pub sine-minus : (a : ℕ) → 32768 ≤ a → a < 65536 → (4096 + (65536 - a)) % 65536 ≡ sineRegister a
 unfolding sineRegister
-sine-minus a h fits = rw (le-ltb a 32768 h) (omega arith)
+sine-minus a h fits = rw (le-ltb a 32768 h) (mod-eq-of-lt (omega arith))
 
 -- a code that is none of those up to n
 others-not : (c n : ℕ) → Apart c n → (k : ℕ) → 1 ≤ k → k ≤ n → eqb c k ≡ false

@@ -68,15 +68,21 @@ const SWITCH: u16 = 0x5000;
 
 const COVER: u16 = 0x1000;
 
+// The sine's sign in the head's register, and the least two's complement that is negative.
+const SIGN: u32 = 4096;
+
+const LEAST_NEGATIVE: u16 = 32768;
+
 // The sine as the head's register holds it: the sign in bit 12 above the magnitude. Sine 0 is plus; a
 // negative sine is stored as 65536 less its magnitude.
 pub(crate) fn sine_register(sine: u16) -> u16
     ensures { λ r. ⌜ r ≡ sineRegister sine ⌝ }
 {
-    if sine < 32768 {
-        sine
+    let minus = (SIGN + (65536 - sine as u32)) % 65536;
+    if LEAST_NEGATIVE <= sine {
+        minus as u16
     } else {
-        4097 + (65535 - sine)
+        sine
     }
 }
 

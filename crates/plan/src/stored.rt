@@ -175,10 +175,12 @@ pub fn checked_at(plan: &[u8], at: usize) -> Checked
         return faulty(ORDER_LENGTH);
     }
     let code = byte(plan, at + 1);
-    if !is_known(code) {
+    let known = is_known(code);
+    let length = length_of(code);
+    if !known {
         return faulty(UNKNOWN_CODE);
     }
-    if size != length_of(code) {
+    if size != length {
         return faulty(CODE_LENGTH);
     }
     let order = fields_at(plan, at + 2, code);
@@ -206,20 +208,19 @@ fn judge_orders(plan: &[u8]) -> Judged
     let mut at: usize = HEADER;
     let mut count: usize = 0;
     while at < plan.len() {
+        let number = fault_at(plan, at);
+        // Where the bytes that the length byte counts begin.
+        let counted = at + 1;
         if MOST_ORDERS <= count {
             return Judged::Refused {
                 number: TOO_MANY,
                 place: at,
             };
         }
-        let fault = fault_at(plan, at);
-        if fault != NO_FAULT {
-            return Judged::Refused {
-                number: fault,
-                place: at,
-            };
+        if number != NO_FAULT {
+            return Judged::Refused { number, place: at };
         }
-        at = at + 1 + byte_at(plan, at) as usize;
+        at = counted + byte_at(plan, at) as usize;
         count = count + 1;
     }
     Judged::Accepted { count }
@@ -247,12 +248,9 @@ pub fn judge(plan: &[u8]) -> Judged
     ensures { λ r. ⌜ judgedNumber r ≡ planNumber (planOf (now (plan .entry))) ⌝ }
     ensures { λ r. ⌜ judgedPlace r ≡ planPlace (planOf (now (plan .entry))) ⌝ }
 {
-    let fault = header_fault(plan);
-    if fault != NO_FAULT {
-        return Judged::Refused {
-            number: fault,
-            place: 0,
-        };
+    let number = header_fault(plan);
+    if number != NO_FAULT {
+        return Judged::Refused { number, place: 0 };
     }
     judge_orders(plan)
 }

@@ -5,17 +5,20 @@ use Rattle.plan.proofs.Sending.{sine-plus, sine-minus}
 use Rattle.plan.proofs.encoding.sine_register.Statement.{statement}
 use Rattle.plan.proofs.encoding.sine_register.Tie as tie
 
-sub-result : tie.Need-sub-result
-sub-result c = search needs
+sub-minus : tie.Need-sub-minus
+sub-minus c = search needs
 
-add-result : tie.Need-add-result
-add-result c = search needs
+add-minus : tie.Need-add-minus
+add-minus c = search needs
+
+cast-result : tie.Need-cast-result
+cast-result c = search needs
 
 returns : tie.Need-returns
-returns c = search (needs, sine-plus)
+returns c = search (needs, sine-minus)
 
 returns-2 : tie.Need-returns-2
-returns-2 c = search (needs, sine-minus)
+returns-2 c = search (needs, sine-plus)
 
 pub sine-register-spec : {M : Type 1} → statement M
-sine-register-spec = tie.close (tie.spec sub-result add-result returns returns-2)
+sine-register-spec = tie.close (tie.spec sub-minus add-minus cast-result returns returns-2)

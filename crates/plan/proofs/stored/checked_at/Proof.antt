@@ -1,6 +1,7 @@
 -- `plan::stored::checked_at` meets its contract.
 -- Assumes nothing.
 use Rattle.plan.proofs.Bytes.{fault-none, fault-empty, fault-past, fault-unknown, fault-length, fault-nothing, fault-field, fields-room, order-fields, checked-faulty, checked-whole}
+use native.Mathlib.Omega.{arith}
 use borrow.Author.Needs.{needs}
 use Rattle.plan.proofs.stored.checked_at.Statement.{statement}
 use Rattle.plan.proofs.stored.checked_at.Tie as tie
@@ -33,7 +34,7 @@ faulty-requires-3 : tie.Need-faulty-requires-3
 faulty-requires-3 c κs = search needs
 
 returns-3 : tie.Need-returns-3
-returns-3 c = checked-faulty _ _ (c .faulty3 .ensures) tt (search (needs, fault-past))
+returns-3 c = checked-faulty _ _ (c .faulty3 .ensures) tt (fault-past _ _ (omega arith))
 
 add-byte : tie.Need-add-byte
 add-byte c = search needs
@@ -44,14 +45,14 @@ byte-requires-2 c κs = search needs
 is-known-requires : tie.Need-is-known-requires
 is-known-requires c κs = search needs
 
+length-of-requires : tie.Need-length-of-requires
+length-of-requires c κs = search needs
+
 faulty-requires-4 : tie.Need-faulty-requires-4
 faulty-requires-4 c κs = search needs
 
 returns-4 : tie.Need-returns-4
 returns-4 c = checked-faulty _ _ (c .faulty4 .ensures) tt (search (needs, fault-unknown))
-
-length-of-requires : tie.Need-length-of-requires
-length-of-requires c κs = search needs
 
 faulty-requires-5 : tie.Need-faulty-requires-5
 faulty-requires-5 c κs = search needs
@@ -94,9 +95,9 @@ checked-at-spec =
     add-byte
     byte-requires-2
     is-known-requires
+    length-of-requires
     faulty-requires-4
     returns-4
-    length-of-requires
     faulty-requires-5
     returns-5
     add-fields-at

@@ -21,17 +21,17 @@ abbrev μ-loop : tie.MeasureT-loop
 loop-holds : tie.Need-loop-holds Inv-loop μ-loop
 loop-holds c = search (needs, counted-none)
 
-returns : tie.Need-returns Inv-loop μ-loop
-returns c = search (needs, judged-many)
-
 fault-at-requires : tie.Need-fault-at-requires Inv-loop μ-loop
 fault-at-requires c κs = search needs
 
+add-counted : tie.Need-add-counted Inv-loop μ-loop
+add-counted c = search needs
+
+returns : tie.Need-returns Inv-loop μ-loop
+returns c = search (needs, judged-many)
+
 returns-2 : tie.Need-returns-2 Inv-loop μ-loop
 returns-2 c = search (needs, judged-fault)
-
-add-at : tie.Need-add-at Inv-loop μ-loop
-add-at c = search needs
 
 byte-at-requires : tie.Need-byte-at-requires Inv-loop μ-loop
 byte-at-requires c κs = search needs
@@ -39,8 +39,8 @@ byte-at-requires c κs = search needs
 cast-at : tie.Need-cast-at Inv-loop μ-loop
 cast-at c = search needs
 
-add-at-2 : tie.Need-add-at-2 Inv-loop μ-loop
-add-at-2 c = search needs
+add-at : tie.Need-add-at Inv-loop μ-loop
+add-at c = search needs
 
 add-count : tie.Need-add-count Inv-loop μ-loop
 add-count c = search needs
@@ -61,13 +61,13 @@ judge-orders-spec =
     Inv-loop
     μ-loop
     loop-holds
-    returns
     fault-at-requires
+    add-counted
+    returns
     returns-2
-    add-at
     byte-at-requires
     cast-at
-    add-at-2
+    add-at
     add-count
     loop-less
     loop-again
