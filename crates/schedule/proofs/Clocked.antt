@@ -12,7 +12,7 @@ use Rattle.words.specs.Kinds as kind
 use Rattle.words.specs.Kinds.{allowed, bitsOf}
 use Rattle.words.specs.Codec.{wordOf}
 use Rattle.head.specs.Range.{inRange}
-use Rattle.head.specs.Limits.{readoutOf, lengthOf}
+use Rattle.head.specs.Limits.{mirrorTicks, coverStepTicks, hkTicks, stepTicks, ccdReadout, readoutOf, lengthOf, longest}
 use Rattle.head.specs.Apply.{after, settingsAfter, motionAfter}
 use Rattle.head.specs.Word.{outOfTurn}
 use Rattle.head.specs.Tick.{ticksOf}
@@ -24,10 +24,10 @@ use Rattle.head.proofs.Ticks.{ticks-settings}
 use Rattle.plan.specs.Words.{Item, send, pause}
 use Rattle.schedule.specs.Earliest.{delayOf}
 use Rattle.schedule.specs.Schedule.{Timed, following, readied, spanOf, sent, scheduleFrom}
-use Rattle.schedule.specs.Clock.{waitOf, clockOf, tickFor, lengthAt, spanAt, clockAfter, clockPaused, clockedFrom, clockThrough, kindIn, Near, longestMotion, longestWord}
+use Rattle.schedule.specs.Clock.{clockOf, tickFor, lengthAt, spanAt, clockAfter, clockPaused, clockedFrom, clockThrough, kindIn, Near, longestMotion, longestWord}
 use Rattle.schedule.specs.declared.clock.Clock.{Clock}
 use Rattle.schedule.proofs.InTurn.{Step, InTurn, empty, given, paused, word-kind, word-bits, is-start, is-hk}
-use Rattle.schedule.proofs.Ready.{Idle, idle-ticks, ticks-motion, delay-wait, readied-ticks, readied-idle, told-head, sent-idle}
+use Rattle.schedule.proofs.Ready.{Idle, waitOf, idle-ticks, ticks-motion, delay-wait, readied-ticks, readied-idle, told-head, sent-idle}
 
 -- the clock says what the head does from its tick on
 pub record At (c : Clock) (s : Head) : Type 0 where
@@ -130,11 +130,11 @@ module _ (k b n : ℕ) (fine : allowed k b ≡ true) (turn : outOfTurn n k ≡ f
       record {
         mirror =
             rw (motion-after, motion-then, ← tick-is c s a k)
-            (moves (eqb k kind.cosL || (eqb k kind.switch && eqb b 0)) 30 (c .mirror) (c .now) (waitOf k (s .motion)) (spanAt c k) (s .motion .mirror)
+            (moves (eqb k kind.cosL || (eqb k kind.switch && eqb b 0)) mirrorTicks (c .mirror) (c .now) (waitOf k (s .motion)) (spanAt c k) (s .motion .mirror)
             (a .mirror));
         cover =
             rw (motion-after, motion-then, ← tick-is c s a k)
-            (moves (eqb k kind.cover) (25 * steps b) (c .cover) (c .now) (waitOf k (s .motion)) (spanAt c k) (s .motion .cover) (a .cover));
+            (moves (eqb k kind.cover) (coverStepTicks * steps b) (c .cover) (c .now) (waitOf k (s .motion)) (spanAt c k) (s .motion .cover) (a .cover));
         mode = rw (settings-after, settings-then, a .mode);
         irdelay = rw (settings-after, settings-then, a .irdelay);
         irexpo = rw (settings-after, settings-then, a .irexpo);
@@ -184,19 +184,19 @@ module _ (n : ℕ) (c : Clock) (h : Near n c) where
       go false true = omega arith
       go false false = omega arith
 
-  pub length-most : lengthAt c ≤ 4238
+  pub length-most : lengthAt c ≤ longest
   unfolding lengthAt readoutOf
   length-most = go (eqb (c .mode) 0)
     where
-      go : (x : Bool) → 1 + max (2 * (c .ccddelay + c .ccdexpo) + 145) (2 * (c .irdelay + c .irexpo) + cond x 140 60) ≤ 4238
+      go : (x : Bool) → 1 + max (stepTicks * (c .ccddelay + c .ccdexpo) + ccdReadout) (stepTicks * (c .irdelay + c .irexpo) + cond x 140 60) ≤ longest
       go true = omega arith
       go false = omega arith
 
-  span-near : (k : ℕ) → spanAt c k ≤ 4238
+  span-near : (k : ℕ) → spanAt c k ≤ longest
   unfolding spanAt
   span-near k = go (eqb k kind.start) (eqb k kind.hk)
     where
-      go : (x y : Bool) → cond x (lengthAt c) (cond y 3 1) ≤ 4238
+      go : (x y : Bool) → cond x (lengthAt c) (cond y hkTicks 1) ≤ longest
       go true y = length-most
       go false true = omega arith
       go false false = omega arith
@@ -210,9 +210,9 @@ module _ (n : ℕ) (c : Clock) (h : Near n c) where
       record {
         now = omega arith;
         mirror =
-            chosen (eqb k kind.cosL || (eqb k kind.switch && eqb b 0)) (tickFor c k + 30) (c .mirror) (n + longestWord + longestMotion) (λ e. omega arith)
+            chosen (eqb k kind.cosL || (eqb k kind.switch && eqb b 0)) (tickFor c k + mirrorTicks) (c .mirror) (n + longestWord + longestMotion) (λ e. omega arith)
             (omega arith);
-        cover = chosen (eqb k kind.cover) (tickFor c k + 25 * steps b) (c .cover) (n + longestWord + longestMotion) (λ e. omega arith) (omega arith);
+        cover = chosen (eqb k kind.cover) (tickFor c k + coverStepTicks * steps b) (c .cover) (n + longestWord + longestMotion) (λ e. omega arith) (omega arith);
         irdelay = chosen (eqb k kind.irDelay) b (c .irdelay) 1023 (λ e. omega arith) (h .irdelay);
         irexpo = chosen (eqb k kind.irExpo) b (c .irexpo) 1023 (λ e. omega arith) (h .irexpo);
         ccddelay = chosen (eqb k kind.ccdDelay) b (c .ccddelay) 1023 (λ e. omega arith) (h .ccddelay);

@@ -15,7 +15,7 @@ use Rattle.plan.specs.declared.order.Order.{Order}
 use Rattle.plan.proofs.Accepted.{sound}
 use Rattle.plan.proofs.Laid.{sets-append}
 use Rattle.plan.proofs.Judging.{from-end, from-many, from-fault, from-order}
-use Rattle.schedule.specs.Clock.{Near, early, clockedFrom, clockThrough}
+use Rattle.schedule.specs.Clock.{Near, early, longestOrder, clockedFrom, clockThrough}
 use Rattle.schedule.specs.Filled.{orderTicks, timedBy, wordTotal, laidOf, wordsLaid, ticksLaid}
 use Rattle.schedule.specs.Translate.{mostWords, tickList, wordList}
 use Rattle.schedule.specs.declared.Translated.{Translated}
@@ -52,7 +52,7 @@ module _ (o : Order) (c : Clock) (n : ℕ) where
 pub record Passing (words₀ ticks₀ bs : List ℕ) (start : Clock) (words ticks : List ℕ) (at next : ℕ) (clock : Clock) (k : ℕ) : Type 0 where
   pub passed : k ≤ 64
   pub small : next ≤ 4 * k
-  pub near : Near (65535 * k) clock
+  pub near : Near (longestOrder * k) clock
   pub longWords : length words ≡ length words₀
   pub longTicks : length ticks ≡ length ticks₀
   pub sameAnswer : laidOf (ordersFrom mostOrders bs 3) start 0 ≡ laidOf (ordersFrom (64 - k) bs at) clock next
@@ -65,7 +65,7 @@ module _ {words₀ ticks₀ bs : List ℕ} {start : Clock} where
       record {
         passed = omega arith;
         small = omega arith;
-        near = near-more 0 (65535 * 0) start (omega arith) near;
+        near = near-more 0 (longestOrder * 0) start (omega arith) near;
         longWords = refl;
         longTicks = refl;
         sameAnswer = refl;
@@ -121,7 +121,7 @@ module _ {words₀ ticks₀ bs : List ℕ} {start : Clock} where
         passing-within = sound bs at whole .ends
 
         pub passing-early : Near early clock
-        passing-early = near-more (65535 * k) early clock (omega arith) (h .near)
+        passing-early = near-more (longestOrder * k) early clock (omega arith) (h .near)
 
         pub passing-fit-words : mostWords ≤ length words₀ → next + length (wordsOf (orderAt bs at)) ≤ length words
         passing-fit-words r = let s = h .small in let l = h .longWords in omega (arith, fit-few (orderAt bs at) passing-fits)
@@ -147,7 +147,7 @@ module _ {words₀ ticks₀ bs : List ℕ} {start : Clock} where
             (record {
               passed = omega arith;
               small = omega (arith, fit-few (orderAt bs at) passing-fits);
-              near = near-more (65535 * k + 65535) (65535 * (k + 1)) (clockThrough clock (itemsOf o)) (omega arith) (near-order o passing-fits (65535 * k) clock (h .near));
+              near = near-more (longestOrder * k + longestOrder) (longestOrder * (k + 1)) (clockThrough clock (itemsOf o)) (omega arith) (near-order o passing-fits (longestOrder * k) clock (h .near));
               longWords = length-sets words next (wordsOf o) ∙ h .longWords;
               longTicks = length-sets ticks next (orderTicks clock o) ∙ h .longTicks;
               sameAnswer = h .sameAnswer ∙ ap (λ (p : Plan). laidOf p clock next) here ∙ laid-before o clock next rest;

@@ -12,7 +12,7 @@ use lib.Dec.{eqb}
 use lib.ListN.{length}
 use Rattle.words.specs.Codec.{wordOf}
 use Rattle.words.proofs.Tests.{and-left, and-right}
-use Rattle.head.specs.Limits.{lengthOf}
+use Rattle.head.specs.Limits.{hkTicks, lengthOf, longest}
 use Rattle.head.specs.Range.{inRange}
 use Rattle.head.specs.Tick.{ticksOf}
 use Rattle.head.specs.declared.state.Head.{Head}
@@ -24,7 +24,7 @@ use Rattle.plan.specs.declared.order.Order.{Order}
 use Rattle.schedule.specs.Earliest.{atRest, delayOf, startWord, hkWord}
 use Rattle.schedule.specs.Schedule.{Timed, readied, spanOf, sent, scheduleFrom, Rising}
 use Rattle.words.proofs.Allowed.{allowed-bits}
-use Rattle.schedule.specs.Clock.{Near, clockOf, clockAfter, clockPaused, clockThrough, clockedFrom, longestWord, latest}
+use Rattle.schedule.specs.Clock.{Near, clockOf, clockAfter, clockPaused, clockThrough, clockedFrom, longestWord, longestOrder, latest}
 use Rattle.schedule.specs.declared.clock.Clock.{Clock}
 use Rattle.schedule.specs.Translate.{fit, mostWords}
 use Rattle.plan.proofs.Accepted.{AllFit}
@@ -33,8 +33,7 @@ use Rattle.schedule.proofs.Orders.{ByOrder, Meant, by-order, by-orders}
 use Rattle.schedule.proofs.Ready.{Idle, idle-ticks, wait-most, delay-wait, readied-idle, sent-idle}
 use Rattle.schedule.proofs.Clocked.{at-first, clocked, near-after, near-paused, near-more}
 
--- how many words steps have, and how many ticks they take at most: a word waits for motions at most 3175 ticks (127 cover steps), and no
--- acquisition is longer than 4238
+-- how many words steps have, and how many ticks they take at most
 abbrev pub wordCount : List Step → ℕ
 wordCount [] = 0
 wordCount (word k b ∷ ms) = suc (wordCount ms)
@@ -57,7 +56,7 @@ ticks-append (wait n ∷ ms) ns = omega (arith, ticks-append ms ns)
 
 -- an order has at most 4 words and takes at most 65,535 ticks
 abbrev pub Small : ℕ → List Step → Type 0
-Small n ms = (wordCount ms ≤ 4 * n) × (mostTicks ms ≤ 65535 * n)
+Small n ms = (wordCount ms ≤ 4 * n) × (mostTicks ms ≤ longestOrder * n)
 
 small : ByOrder (λ o ms. Small 1 ms)
 small =
@@ -98,10 +97,10 @@ near-through (paused {ms = ms} m r) n c h =
     rw (← add-assoc n m (mostTicks ms)) (near-through r (n + m) (clockPaused c m) (near-paused n m c h))
 
 pub near-order : (o : Order) → code.fit o ≡ true → (n : ℕ) (c : Clock) → Near n c
-    → Near (n + 65535) (clockThrough c (itemsOf o))
+    → Near (n + longestOrder) (clockThrough c (itemsOf o))
 near-order o f n c h =
     let m = by-order (λ o ms. Small 1 ms) small o f in
-    near-more (n + mostTicks (m .steps)) (n + 65535) (clockThrough c (itemsOf o)) (omega (arith, m .holds .1))
+    near-more (n + mostTicks (m .steps)) (n + longestOrder) (clockThrough c (itemsOf o)) (omega (arith, m .holds .1))
     (near-through (m .turn 0) n c h)
 
 -- the schedule has a word for each word of the steps, and ends within their ticks
@@ -116,11 +115,11 @@ count-is (given k b fine turn r) s t =
 count-is (paused m r) s t = count-is r (ticksOf m s) (t + m)
 
 -- from the tick of a word to the clock after it
-pub span-bounds : (s : Head) (w : ℕ) → inRange s ≡ true → (1 ≤ spanOf s w) × (spanOf s w ≤ 4238)
+pub span-bounds : (s : Head) (w : ℕ) → inRange s ≡ true → (1 ≤ spanOf s w) × (spanOf s w ≤ longest)
 unfolding spanOf
 span-bounds s w h = go (eqb w startWord) (eqb w hkWord)
   where
-    go : (x y : Bool) → (1 ≤ cond x (lengthOf (s .settings)) (cond y 3 1)) × (cond x (lengthOf (s .settings)) (cond y 3 1) ≤ 4238)
+    go : (x y : Bool) → (1 ≤ cond x (lengthOf (s .settings)) (cond y hkTicks 1)) × (cond x (lengthOf (s .settings)) (cond y hkTicks 1) ≤ longest)
     go true y = let l = length-bounds (s .settings) (bounds s h .settings) in omega arith
     go false true = omega arith
     go false false = omega arith

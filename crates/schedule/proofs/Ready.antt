@@ -2,17 +2,17 @@
 -- Assumes nothing.
 use mathlib.Core.Path.{_≡_, refl, sym, _∙_}
 use mathlib.Core.Bool.{Bool, true, false, cond, not, _&&_, _||_, false≢true}
-use Prim.Native.Nat.{ℕ, zero, suc, _-_, _<_, _≤_, max}
+use Prim.Native.Nat.{ℕ, zero, suc, _-_, _*_, _<_, _≤_, max}
 use native.Mathlib.Omega.{arith}
 use borrow.Author.Tests.{le-leb, le-ltb, ltb-false, not-true, eqb-true, eq-eqb}
 use native.Mathlib.Nat.{zero-sub}
 use Rattle.words.proofs.Tests.{and-left, and-right}
 use lib.Dec.{ltb, eqb}
 use Rattle.words.specs.Kinds as kind
-use Rattle.words.specs.Kinds.{allowed}
+use Rattle.words.specs.Kinds.{allowed, mostSteps}
 use Rattle.words.specs.Codec.{wordOf}
 use Rattle.head.specs.Range.{inRange}
-use Rattle.head.specs.Limits.{lengthOf}
+use Rattle.head.specs.Limits.{mirrorTicks, coverStepTicks, hkTicks, lengthOf}
 use Rattle.head.specs.Flags.{timeIr}
 use Rattle.head.specs.Apply.{after, workAfter, begunAfter}
 use Rattle.head.specs.Word.{ignored, outOfTurn, onWord, onDecoded, answerOf}
@@ -30,7 +30,6 @@ use Rattle.head.proofs.Keep.{word-keeps, ticks-keep}
 use Rattle.head.proofs.Ticks.{ticks-elapsed, ticks-begun}
 use Rattle.schedule.specs.Earliest.{atRest, isTaken, ready, delayWithin, delayOf}
 use Rattle.schedule.specs.Schedule.{readied, spanOf, sent}
-use Rattle.schedule.specs.Clock.{waitOf}
 use Rattle.schedule.proofs.InTurn.{word-decoded, is-start, is-hk, countAfter}
 
 -- a head in range and idle, with so many words of a mirror set begun
@@ -56,6 +55,10 @@ idle-ticks n s c i =
       idle = ticks-busy n s (i .ranged) (omega (arith, i .idle));
       count = rw (ticks-begun n s (i .ranged)) (i .count);
     }
+
+-- how many ticks pass before a word of kind k may go to an idle head: START waits until both motions are 0, COVER until the cover's is
+unfoldable pub waitOf : ℕ → Motion → ℕ
+waitOf k m = cond (eqb k kind.start) (max (m .mirror) (m .cover)) (cond (eqb k kind.cover) (m .cover) 0)
 
 -- whether a word of kind k may go to an idle head with these motions
 unfoldable pub free : ℕ → Motion → Bool
@@ -103,11 +106,11 @@ module _ (k : ℕ) (m : Motion) where
       go false true = refl
       go false false = sym (zero-sub n)
 
-  pub wait-most : m .mirror ≤ 30 → m .cover ≤ 2025 → waitOf k m ≤ 2025
+  pub wait-most : m .mirror ≤ mirrorTicks → m .cover ≤ coverStepTicks * mostSteps → waitOf k m ≤ coverStepTicks * mostSteps
   unfolding waitOf
   wait-most p q = go (eqb k kind.start) (eqb k kind.cover)
     where
-      go : (x y : Bool) → cond x (max (m .mirror) (m .cover)) (cond y (m .cover) 0) ≤ 2025
+      go : (x y : Bool) → cond x (max (m .mirror) (m .cover)) (cond y (m .cover) 0) ≤ coverStepTicks * mostSteps
       go true y = omega arith
       go false true = q
       go false false = omega arith
@@ -175,7 +178,7 @@ module _ (k b c : ℕ) (fine : allowed k b ≡ true) (turn : outOfTurn c k ≡ f
   unfolding delayOf
   delay-wait s i =
       let m = bounds s (i .ranged) .motion in
-      within 2025 s i (wait-most k (s .motion) (m .mirror) (m .cover))
+      within (coverStepTicks * mostSteps) s i (wait-most k (s .motion) (m .mirror) (m .cover))
 
   module _ (s : Head) (i : Idle s c) where
     pub readied-ticks : readied s (wordOf k b) ≡ ticksOf (waitOf k (s .motion)) s
@@ -205,8 +208,8 @@ module _ (k b c : ℕ) (fine : allowed k b ≡ true) (turn : outOfTurn c k ≡ f
     where
       go : (x y u : Bool)
           → cond x (record { task = Acquisition; busy = lengthOf (s .settings) })
-          (cond y (record { task = Housekeeping; busy = 3 }) (cond u (record { task = Idling; busy = 0 }) (s .work))) .busy
-          ≤ cond x (lengthOf (s .settings)) (cond y 3 1)
+          (cond y (record { task = Housekeeping; busy = hkTicks }) (cond u (record { task = Idling; busy = 0 }) (s .work))) .busy
+          ≤ cond x (lengthOf (s .settings)) (cond y hkTicks 1)
       go true y u = omega arith
       go false true u = omega arith
       go false false true = omega arith

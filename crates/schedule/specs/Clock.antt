@@ -1,30 +1,34 @@
 -- Document 01, "Plans": the clock, advanced word by word with sums and maxima alone. It gives the ticks and the end that the head's own
 -- answers and ticks give.
 -- Assumes nothing.
-use Prim.Native.Nat.{ℕ, _+_, _*_, _≤_, max}
+use Prim.Native.Nat.{ℕ, _+_, _-_, _*_, _≤_, max}
 use mathlib.Core.Bool.{cond, _&&_, _||_}
 use mathlib.Core.List.{List, [], _∷_}
 use lib.Dec.{eqb}
 use Rattle.words.specs.Fields.{steps}
 use Rattle.words.specs.Kinds as kind
 use Rattle.words.specs.Kinds.{kindOf, identifier, bitsOf}
-use Rattle.head.specs.Limits.{mirrorTicks, coverStepTicks, hkTicks, lengthBy}
-use Rattle.head.specs.declared.state.Motion.{Motion}
+use Rattle.head.specs.Limits.{mirrorTicks, coverStepTicks, hkTicks, lengthBy, longest}
 use Rattle.head.specs.declared.state.Head.{Head}
 use Rattle.plan.specs.Codes as code
 use Rattle.plan.specs.Codes.{is}
+use Rattle.plan.specs.Stored.{mostOrders}
 use Rattle.plan.specs.Words.{Item, send, pause}
 use Rattle.plan.specs.declared.order.Order.{Order}
 use Rattle.schedule.specs.Schedule.{Schedule, following}
 use Rattle.schedule.specs.declared.clock.Clock.{Clock}
 
--- The longest motion that a COVER word's seven bits of steps can ask for: 25 ticks for each of 127.
+-- The longest motion that a COVER word's seven bits of steps can ask for.
 abbrev pub longestMotion : ℕ
-longestMotion = 3175
+longestMotion = coverStepTicks * 127
 
--- The most that a word advances the clock: such a motion is waited for, and an acquisition takes 4238 ticks at most.
+-- The most that a word advances the clock: such a motion is waited for, and the longest acquisition follows.
 abbrev pub longestWord : ℕ
-longestWord = 7413
+longestWord = longestMotion + longest
+
+-- The most that an order advances it: the longest wait, longer than four such words.
+abbrev pub longestOrder : ℕ
+longestOrder = 65535
 
 -- The clock stands at n or before, what moves then is at rest soon, and a delay or an exposure has ten bits: its numbers fit.
 pub record Near (n : ℕ) (c : Clock) : Type 0 where
@@ -38,15 +42,11 @@ pub record Near (n : ℕ) (c : Clock) : Type 0 where
 
 -- The end is the last clock, at most 4,194,240.
 abbrev pub latest : ℕ
-latest = 4194240
+latest = longestOrder * mostOrders
 
 -- Four such words before the latest clock.
 abbrev pub early : ℕ
-early = 4164588
-
--- How many ticks pass before a word of kind k may go to an idle head: START waits until both motions are 0, COVER until the cover's is.
-unfoldable pub waitOf : ℕ → Motion → ℕ
-waitOf k m = cond (eqb k kind.start) (max (m .mirror) (m .cover)) (cond (eqb k kind.cover) (m .cover) 0)
+early = latest - 4 * longestWord
 
 -- The clock of a head that is idle at tick t.
 unfoldable pub clockOf : Head → ℕ → Clock

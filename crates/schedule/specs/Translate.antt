@@ -8,11 +8,9 @@ use lib.ListN.{length, take, drop}
 use Rattle.head.specs.Range.{inRange}
 use Rattle.head.specs.declared.state.Head.{Head}
 use Rattle.plan.specs.Stored.{Plan, orders, refused, mostOrders, planOf, planNumber, planPlace}
-use Rattle.plan.specs.Words.{send, itemsOfAll}
+use Rattle.plan.specs.Words.{itemsOfAll}
 use Rattle.plan.specs.declared.encoding.Words.{Words}
 use Rattle.schedule.specs.Earliest.{atRest}
-use Rattle.schedule.specs.Clock.{clockedFrom}
-use Rattle.schedule.specs.declared.clock.Clock.{Clock}
 use Rattle.schedule.specs.Schedule.{Timed, Schedule, scheduleFrom}
 use Rattle.schedule.specs.declared.Translated.{Translated}
 use Rattle.schedule.specs.declared.Translated.the-variants.{Done, Refused, Short}
@@ -54,12 +52,9 @@ tickList sch = map (λ (x : Timed). x .tick) (sch .list)
 abbrev pub wordList : Schedule → List ℕ
 wordList sch = map (λ (x : Timed). x .word) (sch .list)
 
--- The words that a counted array holds, and their ticks from a clock on.
+-- The words that a counted array holds.
 abbrev pub wordsIn : Words → List ℕ
 wordsIn ws = take (ws .count) (ws .list)
-
-abbrev pub ticksFrom : Clock → List ℕ → List ℕ
-ticksFrom c ws = tickList (clockedFrom c (map send ws))
 
 -- The refusal's number of document 01, 0 for none, and its byte place.
 abbrev pub translatedNumber : Translated → ℕ
