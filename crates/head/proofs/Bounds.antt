@@ -3,7 +3,7 @@
 use mathlib.Core.Path.{_≡_, refl}
 use mathlib.Core.Bool.{Bool, true, false, cond, not, _&&_, _||_}
 use mathlib.Core.List.{List, [], _∷_}
-use Prim.Native.Nat.{ℕ, _<_, _≤_}
+use Prim.Native.Nat.{ℕ, _*_, _<_, _≤_}
 use native.Mathlib.Omega.{arith}
 use borrow.Author.Tests.{leb-true, leb-false, le-leb, lt-leb, eqb-true, eq-eqb}
 use lib.Dec.{leb, eqb, leb·zero}
@@ -11,7 +11,7 @@ use Rattle.words.specs.Kinds as kind
 use Rattle.words.specs.Fields.{steps}
 use Rattle.words.specs.Kinds.{rows, least, greatest, allowed, mostSteps}
 use Rattle.words.proofs.Tests.{and-left, and-right}
-use Rattle.head.specs.Limits.{lengthOf, readoutOf}
+use Rattle.head.specs.Limits.{hkTicks, mirrorTicks, coverStepTicks, longest, lengthOf, readoutOf}
 use Rattle.head.specs.Range.{allPass, registerTests, latchTests, motionTests, begunTests, place, workInRange, inRange}
 use Rattle.head.specs.declared.state.Settings.{Settings}
 use Rattle.head.specs.declared.state.Latches.{Latches}
@@ -94,8 +94,8 @@ unfolding latchTests greatest rows
 latched-back l h = all-of (latchTests l) (omega (arith, le-leb))
 
 pub record MotionBounds (m : Motion) : Type 0 where
-  pub mirror : m .mirror ≤ 30
-  pub cover : m .cover ≤ 2025
+  pub mirror : m .mirror ≤ mirrorTicks
+  pub cover : m .cover ≤ coverStepTicks * mostSteps
 
 pub motions : (m : Motion) → allPass true (motionTests m) ≡ true → MotionBounds m
 unfolding motionTests
@@ -184,22 +184,22 @@ begun-back g h =
 -- what the head is doing, and for how many ticks yet
 abbrev pub Working : Task → ℕ → Type 0
 Working Idle n = n ≡ 0
-Working Acquisition n = (1 ≤ n) × (n ≤ 4238)
-Working Housekeeping n = (1 ≤ n) × (n ≤ 3)
+Working Acquisition n = (1 ≤ n) × (n ≤ longest)
+Working Housekeeping n = (1 ≤ n) × (n ≤ hkTicks)
 
 pub working : (t : Task) (n : ℕ) → workInRange t n ≡ true → Working t n
 unfolding workInRange
 working Idle n h = eqb-true n 0 h
-working Acquisition n h = (leb-true 1 n (and-left (leb 1 n) (leb n 4238) h), leb-true n 4238 (and-right (leb 1 n) (leb n 4238) h))
-working Housekeeping n h = (leb-true 1 n (and-left (leb 1 n) (leb n 3) h), leb-true n 3 (and-right (leb 1 n) (leb n 3) h))
+working Acquisition n h = (leb-true 1 n (and-left (leb 1 n) (leb n longest) h), leb-true n longest (and-right (leb 1 n) (leb n longest) h))
+working Housekeeping n h = (leb-true 1 n (and-left (leb 1 n) (leb n hkTicks) h), leb-true n hkTicks (and-right (leb 1 n) (leb n hkTicks) h))
 
 pub working-back : (t : Task) (n : ℕ) → Working t n → workInRange t n ≡ true
 unfolding workInRange
 working-back Idle n h = eq-eqb n 0 h
-working-back Acquisition n h = rw (le-leb 1 n (h .0), le-leb n 4238 (h .1))
-working-back Housekeeping n h = rw (le-leb 1 n (h .0), le-leb n 3 (h .1))
+working-back Acquisition n h = rw (le-leb 1 n (h .0), le-leb n longest (h .1))
+working-back Housekeeping n h = rw (le-leb 1 n (h .0), le-leb n hkTicks (h .1))
 
-pub working-most : (t : Task) (n : ℕ) → Working t n → n ≤ 4238
+pub working-most : (t : Task) (n : ℕ) → Working t n → n ≤ longest
 working-most Idle n h = omega arith
 working-most Acquisition n h = omega arith
 working-most Housekeeping n h = omega arith
@@ -210,7 +210,7 @@ pub record Bounds (s : Head) : Type 0 where
   pub motion : MotionBounds (s .motion)
   pub begun : BegunBounds (s .begun)
   pub work : Working (s .work .task) (s .work .busy)
-  pub busy : s .work .busy ≤ 4238
+  pub busy : s .work .busy ≤ longest
 
 module _ (s : Head) where
   pub bounds : inRange s ≡ true → Bounds s

@@ -4,11 +4,12 @@ use mathlib.Core.Path.{_≡_, refl, sym, _∙_, ap}
 use mathlib.Core.Bool.{Bool, true, false, not, false≢true, true≢false}
 use Prim.Native.Nat.{ℕ, _<_, _-_, _+_, _*_}
 use native.Mathlib.Omega.{arith}
-use borrow.Author.Tests.{lt-ltb, le-leb, lt-leb, eqb-true, eqb-false, not-true, not-false}
+use borrow.Author.Tests.{lt-ltb, eqb-true, eqb-false, not-true, not-false}
 use lib.Dec.{ltb, eqb}
 use denote.Enum.Declared.{tagOf}
 use Rattle.words.proofs.Decoded.{the-type}
 use mathlib.Core.Logic.{⊎-elim, _⊎_}
+use Rattle.words.specs.Kinds as kind
 use Rattle.words.specs.Kinds.{rows, kindFrom, kindOf, kinds, allowed, least, greatest}
 use Rattle.words.specs.Codec.{decodeOf, judged, encodeOf, wordOf}
 use Rattle.words.specs.declared.Decoded.{Decoded}
@@ -30,34 +31,30 @@ use Rattle.head.specs.ByGrid.{isWord, waiting, byGrid, byFinding}
 use Rattle.head.specs.declared.state.Head.{Head}
 use Rattle.head.specs.declared.word.Answered.{Answered}
 
-pub past-mirror : (count k : ℕ) → 25 < k → false ≡ outOfTurn count k
-unfolding outOfTurn
-past-mirror count k h = rw (lt-ltb 22 k (omega arith), le-leb 22 k (omega arith), lt-leb k 25 h)
-
-stop-decoded : decodeOf stopWord ≡ Word 3 0
+stop-decoded : decodeOf stopWord ≡ Word kind.stop 0
 unfolding decodeOf judged kindOf kindFrom kinds rows allowed least greatest
 stop-decoded = refl
 
-stop-made : (w b : ℕ) → w < 65536 → decodeOf w ≡ Word 3 b → w ≡ stopWord
+stop-made : (w b : ℕ) → w < 65536 → decodeOf w ≡ Word kind.stop b → w ≡ stopWord
 unfolding encodeOf wordOf rows greatest
 stop-made w b h e =
-    let r = decode-read w 3 b e in
-    let most = allowed-most 3 b (r .fine) in
-    let made = rw (r .fine) at (decode-encode w 3 b h e) in
+    let r = decode-read w kind.stop b e in
+    let most = allowed-most kind.stop b (r .fine) in
+    let made = rw (r .fine) at (decode-encode w kind.stop b h e) in
     let is : 48 * 1024 + b ≡ w = cc in
     omega arith
 
 -- C000 is the one word of kind STOP
-pub stop-alone : (w k b : ℕ) → w < 65536 → decodeOf w ≡ Word k b → eqb w stopWord ≡ eqb k 3
-stop-alone w k b h e = go (eqb w stopWord) refl (eqb k 3) refl
+pub stop-alone : (w k b : ℕ) → w < 65536 → decodeOf w ≡ Word k b → eqb w stopWord ≡ eqb k kind.stop
+stop-alone w k b h e = go (eqb w stopWord) refl (eqb k kind.stop) refl
   where
-    go : (x : Bool) → eqb w stopWord ≡ x → (y : Bool) → eqb k 3 ≡ y → eqb w stopWord ≡ eqb k 3
+    go : (x : Bool) → eqb w stopWord ≡ x → (y : Bool) → eqb k kind.stop ≡ y → eqb w stopWord ≡ eqb k kind.stop
     go true p true q = p ∙ sym q
     go false p false q = p ∙ sym q
     go true p false q =
-        let is : 3 ≡ k = cc (stop-decoded, rw (eqb-true w stopWord p) at e) in
-        absurd (eqb-false k 3 q (sym is))
-    go false p true q = absurd (eqb-false w stopWord p (stop-made w b h (rw (eqb-true k 3 q) at e)))
+        let is : kind.stop ≡ k = cc (stop-decoded, rw (eqb-true w stopWord p) at e) in
+        absurd (eqb-false k kind.stop q (sym is))
+    go false p true q = absurd (eqb-false w stopWord p (stop-made w b h (rw (eqb-true k kind.stop q) at e)))
 
 -- a finding that is no word is answered by the phase alone; it is not C000
 pub by-finding : (s : Head) (w : ℕ) (d : Decoded) → inRange s ≡ true → d ≡ decodeOf w → isWord d ≡ false → byFinding s d ≡ answerOf s w
@@ -71,17 +68,17 @@ by-finding s w d ok e h = go (ltb 0 (s .work .busy)) refl (eqb w stopWord) refl
 
 pub by-grid : (s : Head) (w k b : ℕ) → inRange s ≡ true → w < 65536 → Word k b ≡ decodeOf w → byGrid s k b ≡ answerOf s w
 unfolding byGrid answerOf onDecoded onWord phaseOf applies waiting outOfTurn
-by-grid s w k b ok h e = go (ltb 0 (s .work .busy)) refl (ltb 0 (s .motion .cover)) refl (eqb k 3) refl (eqb k 27) refl
+by-grid s w k b ok h e = go (ltb 0 (s .work .busy)) refl (ltb 0 (s .motion .cover)) refl (eqb k kind.stop) refl (eqb k kind.cover) refl
   where
     known : ltb k 28 ≡ true
     known = lt-ltb k 28 (decode-read w k b (sym e) .known)
 
-    alone : eqb w stopWord ≡ eqb k 3
+    alone : eqb w stopWord ≡ eqb k kind.stop
     alone = stop-alone w k b h (sym e)
 
     go : (busy : Bool) → ltb 0 (s .work .busy) ≡ busy → (moving : Bool) → ltb 0 (s .motion .cover) ≡ moving
-        → (stop : Bool) → eqb k 3 ≡ stop → (cover : Bool) → eqb k 27 ≡ cover → byGrid s k b ≡ answerOf s w
-    go true p moving q true r cover t = rw (ok, alone, ← e, p, eqb-true k 3 r)
+        → (stop : Bool) → eqb k kind.stop ≡ stop → (cover : Bool) → eqb k kind.cover ≡ cover → byGrid s k b ≡ answerOf s w
+    go true p moving q true r cover t = rw (ok, alone, ← e, p, eqb-true k kind.stop r)
     go true p moving q false r cover t = rw (ok, alone, p, known, r)
     go false p true q stop r true t = rw (ok, ← e, p, q, known, t)
     go false p true q stop r false t = rw (ok, ← e, p, q, known, t)

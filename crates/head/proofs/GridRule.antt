@@ -8,9 +8,10 @@ use native.Mathlib.Omega.{arith}
 use borrow.Author.Tests.{le-ltb}
 use lib.Dec.{T, ltb, eqb}
 use lib.ListN.{getD}
+use Rattle.words.specs.Kinds as kind
 use Rattle.words.proofs.Tables.{left as and-left, right as and-right}
 use Rattle.words.proofs.Tables.{agree, agree-at}
-use Rattle.head.specs.Grid.{applies}
+use Rattle.head.specs.Grid.{moving, busy, applies}
 
 abbrev one : Bool → ℕ
 one true = 1
@@ -45,6 +46,6 @@ pub no-kind : (p k : ℕ) → 28 ≤ k → false ≡ applies p k
 unfolding applies
 no-kind p k h = rw (le-ltb k 28 h) (sym (absorbed (ltb p 3)))
   where
-    absorbed : (a : Bool) → (a && false && cond (eqb p 2) (eqb k 3) (cond (eqb p 1) (not (eqb k 27)) true)) ≡ false
+    absorbed : (a : Bool) → (a && false && cond (eqb p busy) (eqb k kind.stop) (cond (eqb p moving) (not (eqb k kind.cover)) true)) ≡ false
     absorbed true = refl
     absorbed false = refl

@@ -8,11 +8,11 @@ use borrow.Author.Tests.{eqb-true, eqb-false}
 use lib.Dec.{eqb}
 use Rattle.words.specs.Fields.{joined, direction, steps}
 use Rattle.words.specs.Kinds as kind
-use Rattle.words.specs.Kinds.{rows, least, greatest, allowed}
+use Rattle.words.specs.Kinds.{rows, least, greatest, allowed, mostSteps}
 use Rattle.words.proofs.Codec.{decode-read}
 use Rattle.head.specs.Range.{inRange}
 use Rattle.head.specs.State.{noneBegun, noFlags}
-use Rattle.head.specs.Limits.{lengthOf}
+use Rattle.head.specs.Limits.{mirrorTicks, coverStepTicks, hkTicks, lengthOf}
 use Rattle.head.specs.Apply.{after, settingsAfter, latchesAfter, workAfter, motionAfter, begunAfter}
 use Rattle.head.specs.Word.{answerOf}
 use Rattle.head.specs.Tick.{motionDown, moved, passed, tickOf, ticksOf}
@@ -52,7 +52,7 @@ module _ (k b : ℕ) (fine : allowed k b ≡ true) where
       go true e = allowed-least j b (of-kind j e)
       go false e = h
 
-  pub steps-most : eqb k kind.cover ≡ true → steps b ≤ 81
+  pub steps-most : eqb k kind.cover ≡ true → steps b ≤ mostSteps
   steps-most e = allowed-steps b (of-kind kind.cover e)
 
   module _ (s : Head) (h : Bounds s) where
@@ -112,10 +112,10 @@ module _ (k b : ℕ) (fine : allowed k b ≡ true) where
     motion-keep =
         record {
           mirror =
-              chosen (eqb k kind.cosL || (eqb k kind.switch && eqb b 0)) 30 (s .motion .mirror) 30 (λ e. omega arith)
+              chosen (eqb k kind.cosL || (eqb k kind.switch && eqb b 0)) mirrorTicks (s .motion .mirror) mirrorTicks (λ e. omega arith)
               (h .motion .mirror);
           cover =
-              chosen (eqb k kind.cover) (25 * steps b) (s .motion .cover) 2025
+              chosen (eqb k kind.cover) (coverStepTicks * steps b) (s .motion .cover) (coverStepTicks * mostSteps)
               (λ e. let m = steps-most e in omega arith)
               (h .motion .cover);
         }
@@ -127,7 +127,7 @@ module _ (k b : ℕ) (fine : allowed k b ≡ true) where
         either : Bool → Bool → Bool → Work
         either x y z =
             cond x (record { task = Acquisition; busy = lengthOf (s .settings) })
-            (cond y (record { task = Housekeeping; busy = 3 })
+            (cond y (record { task = Housekeeping; busy = hkTicks })
             (cond z (record { task = Idle; busy = 0 }) (s .work)))
 
         go : (x y z : Bool) → Working (either x y z .task) (either x y z .busy)

@@ -1,5 +1,6 @@
 pub mod GridRule
 pub mod Places
+pub mod Groups
 pub mod Bounds
 pub mod Answers
 pub mod Keep

@@ -4,12 +4,13 @@ use mathlib.Core.Path.{_≡_, refl}
 use mathlib.Core.Bool.{Bool, true, false, cond, _&&_, _||_}
 use Prim.Native.Nat.{ℕ, zero, suc}
 use lib.Dec.{leb, eqb, leb·zero, eqb·suc-zero}
+use Rattle.words.specs.Kinds as kind
 use Rattle.words.specs.Kinds.{rows, least, greatest, allowed}
 use Rattle.head.specs.Range.{place, allPass, begunTests}
 use Rattle.head.specs.declared.state.Begun.{Begun}
 
 -- a place whose kind's data start at 0 is decided by one comparison with the greatest, or by 0
-pub place-by : (count n k v : ℕ) → least k ≡ 0 → eqb k 27 ≡ false → (leb n count && leb v (greatest k) || eqb v 0) ≡ place count n k v
+pub place-by : (count n k v : ℕ) → least k ≡ 0 → eqb k kind.cover ≡ false → (leb n count && leb v (greatest k) || eqb v 0) ≡ place count n k v
 unfolding place allowed
 place-by count n k v low other = rw (low, other, leb·zero v) (go (leb n count) v)
   where
@@ -32,7 +33,7 @@ pub begun-by : (b : Begun)
 unfolding allPass begunTests least greatest rows
 begun-by b =
     rw (
-      place-by (b .count) 1 22 (b .sinm) refl refl,
-      place-by (b .count) 2 23 (b .sinl) refl refl,
-      place-by (b .count) 3 24 (b .cosm) refl refl,
+      place-by (b .count) 1 kind.sinM (b .sinm) refl refl,
+      place-by (b .count) 2 kind.sinL (b .sinl) refl refl,
+      place-by (b .count) 3 kind.cosM (b .cosm) refl refl,
     )

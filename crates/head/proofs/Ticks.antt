@@ -15,16 +15,7 @@ use Rattle.head.specs.declared.state.Task.the-variants.{Idle, Acquisitio
 use Rattle.head.specs.declared.state.Head.{Head}
 use Rattle.head.proofs.Bounds.{Working, bounds}
 use Rattle.head.proofs.Keep.{tick-keeps}
-
--- two comparisons that say the same
-pub same-leb : (a b c d : ℕ) → (a ≤ b → c ≤ d) → (c ≤ d → a ≤ b) → leb a b ≡ leb c d
-same-leb a b c d p q = go (leb a b) refl (leb c d) refl
-  where
-    go : (x : Bool) → leb a b ≡ x → (y : Bool) → leb c d ≡ y → leb a b ≡ leb c d
-    go true e true f = rw (e, f)
-    go true e false f = let l = p (leb-true a b e) in let m = leb-false c d f in absurd (omega arith)
-    go false e true f = let l = q (leb-true c d f) in let m = leb-false a b e in absurd (omega arith)
-    go false e false f = rw (e, f)
+use Rattle.head.proofs.Groups.{same-leb}
 
 one-more : (n m : ℕ) → m - 1 - n ≡ m - suc n
 one-more n m = omega arith

@@ -1,7 +1,7 @@
 -- Document 01, "The head": its answer to a word, in the order of the checks.
 -- Assumes nothing.
-use Prim.Native.Nat.{ℕ, _-_}
-use mathlib.Core.Bool.{Bool, cond, not, _&&_}
+use Prim.Native.Nat.{ℕ}
+use mathlib.Core.Bool.{Bool, cond, not, _&&_, _||_}
 use lib.Dec.{eqb, ltb}
 use Rattle.words.specs.Kinds as kind
 use Rattle.words.specs.Codec.{decodeOf}
@@ -27,9 +27,10 @@ marked s f g =
 abbrev pub ignored : Head → Flags → Begun → Cause → Answered
 ignored s f g c = record { head = marked s f g; outcome = Ignored c }
 
--- The mirror word in turn after so many of a set: SIN L after one, COS M after two, COS L after three. SIN M is never out of turn.
+-- After so many words of a set: SIN L is in turn after one, COS M after two, COS L after three. SIN M is never out of turn.
 unfoldable pub outOfTurn : ℕ → ℕ → Bool
-outOfTurn count k = ltb kind.sinM k && mirrorWord k && not (eqb (k - kind.sinM) count)
+outOfTurn count k =
+    (eqb k kind.sinL && not (eqb count 1)) || (eqb k kind.cosM && not (eqb count 2)) || (eqb k kind.cosL && not (eqb count 3))
 
 -- 22 (COVER while the cover moves), 25, or taken.
 unfoldable pub onWord : Head → ℕ → ℕ → Answered

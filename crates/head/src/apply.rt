@@ -36,6 +36,7 @@ use words::kinds::WIN_Y2;
 ghost use mathlib.Core.Path.{_≡_};
 ghost use mathlib.Core.Bool.{true};
 ghost use Prim.Native.Nat.{ℕ, _+_, _*_, _≤_, _<_, max};
+ghost use Rattle.words.specs.Kinds.{stop, irDetector, irWinMode, vdetcomM, vdetadjL, irDelay, irExpo, winX1, ccdLamp, irLamp, annealing, sinM, cosL, switch, cover};
 ghost use Rattle.head.specs.Limits.{stepTicks, readoutOf, lengthBy, lengthOf};
 ghost use Rattle.head.specs.Range.{inRange};
 ghost use Rattle.head.specs.Apply.{after};
@@ -91,7 +92,7 @@ impl Settings {
 impl Head {
     // START begins an acquisition, HK keeps the head busy, STOP makes it idle, NOP does nothing.
     fn control(mut self, kind: u8) -> Head
-        requires { ⌜ kind ≤ 3 ⌝ ∗ ⌜ inRange self ≡ true ⌝ }
+        requires { ⌜ kind ≤ stop ⌝ ∗ ⌜ inRange self ≡ true ⌝ }
         ensures { λ r. ⌜ ((b : ℕ) → r ≡ after self kind b) ⌝ }
     {
         match kind {
@@ -125,7 +126,7 @@ impl Head {
 
     // IR DETECTOR and IR WIN MODE.
     fn ir_window(mut self, kind: u8, bits: u16) -> Head
-        requires { ⌜ 4 ≤ kind ⌝ ∗ ⌜ kind ≤ 5 ⌝ }
+        requires { ⌜ irDetector ≤ kind ⌝ ∗ ⌜ kind ≤ irWinMode ⌝ }
         ensures { λ r. ⌜ r ≡ after self kind bits ⌝ }
     {
         if kind == IR_DETECTOR {
@@ -138,7 +139,7 @@ impl Head {
 
     // An M word fills a latch, an L word sets the register.
     fn voltage(mut self, kind: u8, bits: u16) -> Head
-        requires { ⌜ 6 ≤ kind ⌝ ∗ ⌜ kind ≤ 9 ⌝ ∗ ⌜ inRange self ≡ true ⌝ ∗ ⌜ bits < 1024 ⌝ }
+        requires { ⌜ vdetcomM ≤ kind ⌝ ∗ ⌜ kind ≤ vdetadjL ⌝ ∗ ⌜ inRange self ≡ true ⌝ ∗ ⌜ bits < 1024 ⌝ }
         ensures { λ r. ⌜ r ≡ after self kind bits ⌝ }
     {
         match kind {
@@ -165,7 +166,7 @@ impl Head {
 
     // IR DELAY and IR EXPO.
     fn ir_times(mut self, kind: u8, bits: u16) -> Head
-        requires { ⌜ 10 ≤ kind ⌝ ∗ ⌜ kind ≤ 11 ⌝ }
+        requires { ⌜ irDelay ≤ kind ⌝ ∗ ⌜ kind ≤ irExpo ⌝ }
         ensures { λ r. ⌜ r ≡ after self kind bits ⌝ }
     {
         if kind == IR_DELAY {
@@ -178,7 +179,7 @@ impl Head {
 
     // The CCD's window, times and lamp.
     fn ccd(mut self, kind: u8, bits: u16) -> Head
-        requires { ⌜ 12 ≤ kind ⌝ ∗ ⌜ kind ≤ 18 ⌝ }
+        requires { ⌜ winX1 ≤ kind ⌝ ∗ ⌜ kind ≤ ccdLamp ⌝ }
         ensures { λ r. ⌜ r ≡ after self kind bits ⌝ }
     {
         match kind {
@@ -215,7 +216,7 @@ impl Head {
 
     // IR LAMP, SHUTTER and ANNEALING.
     fn ir_currents(mut self, kind: u8, bits: u16) -> Head
-        requires { ⌜ 19 ≤ kind ⌝ ∗ ⌜ kind ≤ 21 ⌝ }
+        requires { ⌜ irLamp ≤ kind ⌝ ∗ ⌜ kind ≤ annealing ⌝ }
         ensures { λ r. ⌜ r ≡ after self kind bits ⌝ }
     {
         match kind {
@@ -236,7 +237,7 @@ impl Head {
 
     // A mirror word in turn; the pair changes at COS L.
     fn mirror(mut self, kind: u8, bits: u16) -> Head
-        requires { ⌜ 22 ≤ kind ⌝ ∗ ⌜ kind ≤ 25 ⌝ ∗ ⌜ inRange self ≡ true ⌝ ∗ ⌜ bits < 1024 ⌝ }
+        requires { ⌜ sinM ≤ kind ⌝ ∗ ⌜ kind ≤ cosL ⌝ ∗ ⌜ inRange self ≡ true ⌝ ∗ ⌜ bits < 1024 ⌝ }
         ensures { λ r. ⌜ r ≡ after self kind bits ⌝ }
     {
         let begun = self.begun;
@@ -278,7 +279,7 @@ impl Head {
     // COS L: the begun set becomes the mirror's pair.
     fn pointed(mut self, bits: u16) -> Head
         requires { ⌜ inRange self ≡ true ⌝ ∗ ⌜ bits < 1024 ⌝ }
-        ensures { λ r. ⌜ r ≡ after self 25 bits ⌝ }
+        ensures { λ r. ⌜ r ≡ after self cosL bits ⌝ }
     {
         let begun = self.begun;
         let sine = begun.sinm * 256 + begun.sinl;
@@ -298,7 +299,7 @@ impl Head {
 
     // SWITCH: 0 is on and moves the mirror.
     fn motor(mut self, bits: u16) -> Head
-        ensures { λ r. ⌜ r ≡ after self 26 bits ⌝ }
+        ensures { λ r. ⌜ r ≡ after self switch bits ⌝ }
     {
         self.settings.switch = bits;
         if bits == 0 {
@@ -310,7 +311,7 @@ impl Head {
 
     fn cover(mut self, bits: u16) -> Head
         requires { ⌜ bits < 1024 ⌝ }
-        ensures { λ r. ⌜ r ≡ after self 27 bits ⌝ }
+        ensures { λ r. ⌜ r ≡ after self cover bits ⌝ }
     {
         let direction = bits / 512;
         let ticks = Head::COVER_STEP_TICKS * (bits % 128);

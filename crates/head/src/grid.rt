@@ -10,7 +10,13 @@ pub const MOVING: usize = 1;
 
 pub const BUSY: usize = 2;
 
-// 1 applies the word, 0 ignores it.
+// 1 applies the word, 0 ignores it:
+//
+// | phase                      | applied       | ignored      |
+// |----------------------------|---------------|--------------|
+// | idle                       | all 28 kinds  | none         |
+// | idle with the cover moving | all but COVER | COVER        |
+// | busy                       | STOP          | all but STOP |
 const GRID: [[u8; 28]; 3] = [
     // idle
     [

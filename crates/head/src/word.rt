@@ -79,7 +79,8 @@ pub fn out_of_turn(count: u16, kind: u8) -> bool
     if COS_L < kind {
         return false;
     }
-    ((kind - SIN_M) as u16) != count
+    let due = SIN_M as u32 + count as u32;
+    kind as u32 != due
 }
 
 fn is_mirror(kind: u8) -> bool

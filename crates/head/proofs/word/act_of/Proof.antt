@@ -1,6 +1,7 @@
 -- `head::word::act_of` meets its contract.
 -- Assumes nothing.
 use borrow.Author.Tests.{ne-eqb}
+use Rattle.words.specs.Kinds as kind
 use Rattle.head.specs.Apply.{actOf}
 use Rattle.head.proofs.word.act_of.Statement.{statement}
 use Rattle.head.proofs.word.act_of.Tie as tie
@@ -21,7 +22,7 @@ returns-4 : tie.Need-returns-4
 unfolding actOf
 returns-4 c =
     let k = c .before .before .before .args .kind in
-    rw (ne-eqb k 1 (c .before .before .if1 .left), ne-eqb k 2 (c .before .if2 .left), ne-eqb k 27 (c .if3 .left))
+    rw (ne-eqb k kind.start (c .before .before .if1 .left), ne-eqb k kind.hk (c .before .if2 .left), ne-eqb k kind.cover (c .if3 .left))
 
 pub act-of-spec : {M : Type 1} → statement M
 act-of-spec = tie.close (tie.spec returns returns-2 returns-3 returns-4)

@@ -3,6 +3,7 @@
 use mathlib.Core.Path.{_≡_}
 use native.Mathlib.Omega.{arith}
 use borrow.Author.Needs.{needs}
+use Rattle.words.specs.Kinds as kind
 use Rattle.head.proofs.state.Head.applied.Statement.{statement}
 use Rattle.head.proofs.state.Head.applied.Tie as tie
 
@@ -59,7 +60,7 @@ cover-requires c κs = search needs
 
 returns-9 : tie.Need-returns-9
 returns-9 c =
-    let is : c .before .before .before .before .before .before .before .before .before .args .kind ≡ 27 = omega arith in
+    let is : c .before .before .before .before .before .before .before .before .before .args .kind ≡ kind.cover = omega arith in
     rw is (c .cover .ensures)
 
 pub applied-spec : {M : Type 1} → statement M

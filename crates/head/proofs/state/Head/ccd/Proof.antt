@@ -2,6 +2,7 @@
 -- Assumes nothing.
 use native.Mathlib.Omega.{arith}
 use mathlib.Core.Path.{_≡_}
+use Rattle.words.specs.Kinds as kind
 use Rattle.head.specs.Apply.{after}
 use Rattle.head.proofs.state.Head.ccd.Statement.{statement}
 use Rattle.head.proofs.state.Head.ccd.Tie as tie
@@ -33,7 +34,7 @@ returns-6 c = rw (c .before .match .keys6)
 returns-7 : tie.Need-returns-7
 unfolding after
 returns-7 c =
-    let is : c .before .before .args .kind ≡ 18 = omega arith in
+    let is : c .before .before .args .kind ≡ kind.ccdLamp = omega arith in
     rw is
 
 pub ccd-spec : {M : Type 1} → statement M

@@ -2,6 +2,7 @@
 -- Assumes nothing.
 use mathlib.Core.Path.{_≡_}
 use native.Mathlib.Omega.{arith}
+use Rattle.words.specs.Kinds as kind
 use Rattle.head.proofs.Bounds.{bounds, length-bounds}
 use borrow.Author.Needs.{needs}
 use Rattle.head.specs.Apply.{after}
@@ -29,7 +30,7 @@ returns-3 c b = rw (c .match .keys3)
 returns-4 : tie.Need-returns-4
 unfolding after
 returns-4 c b =
-    let is : c .before .args .kind ≡ 0 = omega arith in
+    let is : c .before .args .kind ≡ kind.nop = omega arith in
     rw is
 
 pub control-spec : {M : Type 1} → statement M

@@ -2,6 +2,7 @@
 -- Assumes nothing.
 use native.Mathlib.Omega.{arith}
 use mathlib.Core.Path.{_≡_}
+use Rattle.words.specs.Kinds as kind
 use Rattle.head.specs.Apply.{after}
 use Rattle.head.proofs.state.Head.ir_currents.Statement.{statement}
 use Rattle.head.proofs.state.Head.ir_currents.Tie as tie
@@ -17,7 +18,7 @@ returns-2 c = rw (c .before .match .keys2)
 returns-3 : tie.Need-returns-3
 unfolding after
 returns-3 c =
-    let is : c .before .before .args .kind ≡ 21 = omega arith in
+    let is : c .before .before .args .kind ≡ kind.annealing = omega arith in
     rw is
 
 pub ir-currents-spec : {M : Type 1} → statement M

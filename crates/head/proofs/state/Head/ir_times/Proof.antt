@@ -2,6 +2,7 @@
 -- Assumes nothing.
 use native.Mathlib.Omega.{arith}
 use mathlib.Core.Path.{_≡_}
+use Rattle.words.specs.Kinds as kind
 use Rattle.head.specs.Apply.{after}
 use Rattle.head.proofs.state.Head.ir_times.Statement.{statement}
 use Rattle.head.proofs.state.Head.ir_times.Tie as tie
@@ -13,7 +14,7 @@ returns c = rw (c .before .if1 .taken)
 returns-2 : tie.Need-returns-2
 unfolding after
 returns-2 c =
-    let is : c .before .before .args .kind ≡ 11 = omega arith in
+    let is : c .before .before .args .kind ≡ kind.irExpo = omega arith in
     rw is
 
 pub ir-times-spec : {M : Type 1} → statement M

@@ -3,6 +3,7 @@
 use native.Mathlib.Omega.{arith}
 use mathlib.Core.Path.{_≡_}
 use borrow.Author.Needs.{needs}
+use Rattle.words.specs.Kinds as kind
 use Rattle.head.specs.Apply.{after}
 use Rattle.head.proofs.state.Head.mirror.Statement.{statement}
 use Rattle.head.proofs.state.Head.mirror.Tie as tie
@@ -24,7 +25,7 @@ returns-3 c = rw (c .match .keys3)
 
 returns-4 : tie.Need-returns-4
 returns-4 c =
-    let is : c .before .before .before .args .kind ≡ 25 = omega arith in
+    let is : c .before .before .before .args .kind ≡ kind.cosL = omega arith in
     rw is (c .pointed .ensures)
 
 pub mirror-spec : {M : Type 1} → statement M

@@ -2,6 +2,7 @@
 -- Assumes nothing.
 use mathlib.Core.Path.{_≡_}
 use native.Mathlib.Omega.{arith}
+use Rattle.words.specs.Kinds as kind
 use Rattle.head.proofs.Bounds.{bounds}
 use Rattle.head.specs.Apply.{after}
 use Rattle.head.proofs.state.Head.voltage.Statement.{statement}
@@ -34,7 +35,7 @@ returns-3 c = rw (c .before .match .keys3)
 returns-4 : tie.Need-returns-4
 unfolding after
 returns-4 c =
-    let is : c .before .before .before .args .kind ≡ 9 = omega arith in
+    let is : c .before .before .before .args .kind ≡ kind.vdetadjL = omega arith in
     rw is
 
 pub voltage-spec : {M : Type 1} → statement M
