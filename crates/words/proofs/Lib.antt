@@ -3,3 +3,5 @@ pub mod Tables
 pub mod Allowed
 pub mod Codec
 pub mod Count
+pub mod Fields
+pub mod Names

@@ -1,80 +1,107 @@
 // The 28 command words of VIRTIS-M, to and from words (document 01, "The words").
 pub mod kinds;
 
+use kinds::ANNEALING;
+use kinds::CCD_DELAY;
+use kinds::CCD_EXPO;
+use kinds::CCD_LAMP;
+use kinds::COS_L;
+use kinds::COS_M;
 use kinds::COVER;
+use kinds::HK;
+use kinds::IR_DELAY;
+use kinds::IR_DETECTOR;
+use kinds::IR_EXPO;
+use kinds::IR_LAMP;
+use kinds::IR_WIN_MODE;
 use kinds::KINDS;
 use kinds::LEAST_CCD_DELAY;
 use kinds::MOST_STEPS;
+use kinds::NOP;
+use kinds::SHUTTER;
+use kinds::SIN_L;
+use kinds::SIN_M;
+use kinds::START;
+use kinds::STOP;
+use kinds::SWITCH;
+use kinds::VDETADJ_L;
+use kinds::VDETADJ_M;
+use kinds::VDETCOM_L;
+use kinds::VDETCOM_M;
+use kinds::WIN_X1;
+use kinds::WIN_X2;
+use kinds::WIN_Y1;
+use kinds::WIN_Y2;
 ghost use mathlib.Core.Path.{_≡_};
 ghost use Rattle.words.specs.Kinds.{allowed, identifier, kindOf};
 ghost use Rattle.words.specs.Codec.{decodeOf, encodeOf, decodedNumber, encodedNumber, findingNumber, encodingNumber};
 
-// The kind of each identifier; 28 where no kind has it.
+// The kind of each identifier; KINDS where no kind has it.
 const KIND_OF: [u8; 64] = [
-    0, // 00 NOP
-    28, // 01
-    11, // 02 IR EXPO
-    28, // 03
-    27, // 04 COVER
-    28, // 05
-    16, // 06 CCD DELAY
-    28, // 07
-    22, // 08 SIN M
-    28, // 09
-    12, // 0A WIN X1
-    28, // 0B
-    7, // 0C VDETCOM L
-    28, // 0D
-    28, // 0E
-    28, // 0F
-    2, // 10 HK
-    28, // 11
-    21, // 12 ANNEALING
-    28, // 13
-    26, // 14 SWITCH
-    28, // 15
-    18, // 16 CCD LAMP
-    28, // 17
-    24, // 18 COS M
-    28, // 19
-    14, // 1A WIN X2
-    28, // 1B
-    9, // 1C VDETADJ L
-    28, // 1D
-    28, // 1E
-    28, // 1F
-    1, // 20 START
-    28, // 21
-    19, // 22 IR LAMP
-    28, // 23
-    5, // 24 IR WIN MODE
-    28, // 25
-    17, // 26 CCD EXPO
-    28, // 27
-    23, // 28 SIN L
-    28, // 29
-    13, // 2A WIN Y1
-    28, // 2B
-    8, // 2C VDETADJ M
-    28, // 2D
-    28, // 2E
-    28, // 2F
-    3, // 30 STOP
-    28, // 31
-    20, // 32 SHUTTER
-    28, // 33
-    6, // 34 VDETCOM M
-    28, // 35
-    4, // 36 IR DETECTOR
-    28, // 37
-    25, // 38 COS L
-    28, // 39
-    15, // 3A WIN Y2
-    28, // 3B
-    10, // 3C IR DELAY
-    28, // 3D
-    28, // 3E
-    28, // 3F
+    NOP, // 00
+    KINDS, // 01
+    IR_EXPO, // 02
+    KINDS, // 03
+    COVER, // 04
+    KINDS, // 05
+    CCD_DELAY, // 06
+    KINDS, // 07
+    SIN_M, // 08
+    KINDS, // 09
+    WIN_X1, // 0A
+    KINDS, // 0B
+    VDETCOM_L, // 0C
+    KINDS, // 0D
+    KINDS, // 0E
+    KINDS, // 0F
+    HK, // 10
+    KINDS, // 11
+    ANNEALING, // 12
+    KINDS, // 13
+    SWITCH, // 14
+    KINDS, // 15
+    CCD_LAMP, // 16
+    KINDS, // 17
+    COS_M, // 18
+    KINDS, // 19
+    WIN_X2, // 1A
+    KINDS, // 1B
+    VDETADJ_L, // 1C
+    KINDS, // 1D
+    KINDS, // 1E
+    KINDS, // 1F
+    START, // 20
+    KINDS, // 21
+    IR_LAMP, // 22
+    KINDS, // 23
+    IR_WIN_MODE, // 24
+    KINDS, // 25
+    CCD_EXPO, // 26
+    KINDS, // 27
+    SIN_L, // 28
+    KINDS, // 29
+    WIN_Y1, // 2A
+    KINDS, // 2B
+    VDETADJ_M, // 2C
+    KINDS, // 2D
+    KINDS, // 2E
+    KINDS, // 2F
+    STOP, // 30
+    KINDS, // 31
+    SHUTTER, // 32
+    KINDS, // 33
+    VDETCOM_M, // 34
+    KINDS, // 35
+    IR_DETECTOR, // 36
+    KINDS, // 37
+    COS_L, // 38
+    KINDS, // 39
+    WIN_Y2, // 3A
+    KINDS, // 3B
+    IR_DELAY, // 3C
+    KINDS, // 3D
+    KINDS, // 3E
+    KINDS, // 3F
 ];
 
 // The least and the greatest data of each kind.
@@ -221,7 +248,7 @@ pub fn allows(kind: u8, bits: u16) -> bool
     (LEAST[k] <= bits) & (bits <= GREATEST[k]) & steps
 }
 
-// The kind of a word's identifier; 28 where no kind has it.
+// The kind of a word's identifier; KINDS where no kind has it.
 pub fn kind_of(word: u16) -> u8
     ensures { λ r. ⌜ r ≡ kindOf (identifier word) ⌝ }
 {
