@@ -8,4 +8,5 @@ pub mod Ignored
 pub mod Ticks
 pub mod Passing
 pub mod Findings
+pub mod Ways
 pub mod Numbered

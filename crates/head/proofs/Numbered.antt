@@ -72,7 +72,7 @@ act-number w k b h e = rw (← decode-read w k b e .kind) (go (eqb k kind.start)
     go false false true p = cover-word w b h (rw (eqb-true k kind.cover p) at e)
 
 -- the answer to any word: one clause for each line of the table, in its order
-word-number : (s : Head) (w : ℕ) → w < 65536 → outcomeNumber (answerOf s w .outcome) ≡ answerNumber s w
+pub word-number : (s : Head) (w : ℕ) → w < 65536 → outcomeNumber (answerOf s w .outcome) ≡ answerNumber s w
 unfolding answerOf answerNumber decodeOf judged onDecoded onWord outcomeNumber causeNumber
 word-number s w h =
     go (inRange s) refl (ltb 0 (s .work .busy) && not (eqb w stopWord)) refl (ltb k kinds) refl (allowed k b) refl
@@ -97,7 +97,7 @@ word-number s w h =
     go true p false q true r true t false u true v = rw (p, q, r, t, u, v)
     go true p false q true r true t false u false v = rw (p, q, r, t, u, v) (act-number w k b h (rw (r, t)))
 
-tick-number : (s : Head) → dueNumber (tickOf s .due) ≡ tickNumber s
+pub tick-number : (s : Head) → dueNumber (tickOf s .due) ≡ tickNumber s
 unfolding tickOf passed tickNumber dueNumber
 tick-number s = go (inRange s) refl (eqb (s .work .busy) 1) refl
   where

@@ -97,9 +97,11 @@ impl Head {
     {
         match kind {
             START => {
+                let ticks = self.settings.acquisition_ticks();
+                let busy = ticks as u16;
                 let work = Work {
                     task: Task::Acquisition,
-                    busy: self.settings.acquisition_ticks() as u16,
+                    busy,
                 };
                 self.work = work;
                 self

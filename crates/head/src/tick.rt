@@ -67,11 +67,12 @@ impl Head {
         self.motion = motion;
         if busy == 1 {
             let flags = self.flags;
+            let cleared = Flags::none();
             let work = Work {
                 task: Task::Idle,
                 busy: 0,
             };
-            self.flags = Flags::none();
+            self.flags = cleared;
             self.work = work;
             return Ticked {
                 head: self,

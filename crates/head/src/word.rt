@@ -103,54 +103,48 @@ impl Begun {
 }
 
 impl Head {
-    // The state with other flags.
-    fn flagged(mut self, flags: Flags) -> Head
-        ensures { λ r. ⌜ r ≡ marked self flags (self .begun) ⌝ }
+    // The state with other flags and another begun set: all that an ignored word may change.
+    fn marked(mut self, flags: Flags, begun: Begun) -> Head
+        ensures { λ r. ⌜ r ≡ marked self flags begun ⌝ }
     {
         self.flags = flags;
+        self.begun = begun;
         self
     }
 
-    // The state with other flags and no mirror set begun.
-    fn dropped(mut self, flags: Flags) -> Head
-        ensures { λ r. ⌜ r ≡ marked self flags noneBegun ⌝ }
-    {
-        self.flags = flags;
-        self.begun = Begun::none();
-        self
-    }
-
-    // The answer to a word that is ignored in this phase.
+    // The answer to a word that is ignored in this phase; a begun set stays.
     fn kept_waiting(self, phase: usize) -> Answered
         ensures { λ r. ⌜ r ≡ waiting self phase ⌝ }
     {
         let flags = self.flags;
+        let begun = self.begun;
         if phase == BUSY {
             return Answered {
-                head: self.flagged(flags.time_both()),
+                head: self.marked(flags.time_both(), begun),
                 outcome: Outcome::Ignored(Cause::Busy),
             };
         }
         Answered {
-            head: self.flagged(flags.time_ir()),
+            head: self.marked(flags.time_ir(), begun),
             outcome: Outcome::Ignored(Cause::CoverMoving),
         }
     }
 
-    // The answer to a word that is out of range.
+    // The answer to a word that is out of range; a mirror word drops the begun set.
     fn out_of_range(self, kind: u8) -> Answered
         ensures { λ r. ⌜ r ≡ onDecoded self (OutOfRange kind) ⌝ }
     {
         let flags = self.flags.out_of_range(kind);
+        let begun = self.begun;
         let outcome = Outcome::Ignored(Cause::Range);
         if is_mirror(kind) {
             return Answered {
-                head: self.dropped(flags),
+                head: self.marked(flags, Begun::none()),
                 outcome,
             };
         }
         Answered {
-            head: self.flagged(flags),
+            head: self.marked(flags, begun),
             outcome,
         }
     }
@@ -161,13 +155,14 @@ impl Head {
         ensures { λ r. ⌜ r ≡ byFinding self found ⌝ }
     {
         let flags = self.flags;
+        let begun = self.begun;
         if 0 < self.work.busy {
             return self.kept_waiting(BUSY);
         }
         match found {
             Decoded::OutOfRange { kind } => self.out_of_range(kind),
             _ => Answered {
-                head: self.flagged(flags.word_both()),
+                head: self.marked(flags.word_both(), begun),
                 outcome: Outcome::Ignored(Cause::UnknownWord),
             },
         }
@@ -185,7 +180,7 @@ impl Head {
         let flags = self.flags;
         if out_of_turn(self.begun.count, kind) {
             return Answered {
-                head: self.dropped(flags.scanned()),
+                head: self.marked(flags.scanned(), Begun::none()),
                 outcome: Outcome::Ignored(Cause::Turn),
             };
         }

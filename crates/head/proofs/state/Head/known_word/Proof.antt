@@ -15,7 +15,7 @@ kept-waiting-requires : tie.Need-kept-waiting-requires
 kept-waiting-requires c κs = search needs
 
 returns : tie.Need-returns
-returns c = search (needs, way-ignored)
+returns c = search (needs, way-ignored, way-turn, way-taken)
 
 out-of-turn-requires : tie.Need-out-of-turn-requires
 out-of-turn-requires c κs = search needs
@@ -23,11 +23,14 @@ out-of-turn-requires c κs = search needs
 scanned-requires : tie.Need-scanned-requires
 scanned-requires c κs = search needs
 
-dropped-requires : tie.Need-dropped-requires
-dropped-requires c κs = search needs
+none-requires : tie.Need-none-requires
+none-requires c κs = search needs
+
+marked-requires : tie.Need-marked-requires
+marked-requires c κs = search needs
 
 returns-2 : tie.Need-returns-2
-returns-2 c = search (needs, way-turn)
+returns-2 c = search (needs, way-ignored, way-turn, way-taken)
 
 applied-requires-2 : tie.Need-applied-requires-2
 applied-requires-2 c κs = search needs
@@ -36,7 +39,7 @@ act-of-requires : tie.Need-act-of-requires
 act-of-requires c κs = search needs
 
 returns-3 : tie.Need-returns-3
-returns-3 c = search (needs, way-taken)
+returns-3 c = search (needs, way-ignored, way-turn, way-taken)
 
 pub known-word-spec : {M : Type 1} → statement M
 known-word-spec =
@@ -48,7 +51,8 @@ known-word-spec =
     returns
     out-of-turn-requires
     scanned-requires
-    dropped-requires
+    none-requires
+    marked-requires
     returns-2
     applied-requires-2
     act-of-requires

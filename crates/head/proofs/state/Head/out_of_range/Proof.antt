@@ -1,6 +1,6 @@
 -- `head::state::Head::out_of_range` meets its contract: a mirror word drops the begun set.
 -- Assumes nothing.
-use Rattle.head.specs.Word.{onDecoded}
+use Rattle.head.proofs.Ways.{way-dropped, way-kept}
 use borrow.Author.Needs.{needs}
 use Rattle.head.proofs.state.Head.out_of_range.Statement.{statement}
 use Rattle.head.proofs.state.Head.out_of_range.Tie as tie
@@ -11,21 +11,20 @@ out-of-range-requires c κs = search needs
 is-mirror-requires : tie.Need-is-mirror-requires
 is-mirror-requires c κs = search needs
 
-dropped-requires : tie.Need-dropped-requires
-dropped-requires c κs = search needs
+none-requires : tie.Need-none-requires
+none-requires c κs = search needs
+
+marked-requires : tie.Need-marked-requires
+marked-requires c κs = search needs
 
 returns : tie.Need-returns
-unfolding onDecoded
-returns c =
-    simp (c .dropped .ensures, c .before .before .before .out-of-range .ensures, ← c .before .before .is-mirror .ensures, c .before .if1 .taken)
+returns c = search (needs, way-dropped, way-kept)
 
-flagged-requires : tie.Need-flagged-requires
-flagged-requires c κs = search needs
+marked-requires-2 : tie.Need-marked-requires-2
+marked-requires-2 c κs = search needs
 
 returns-2 : tie.Need-returns-2
-unfolding onDecoded
-returns-2 c =
-    simp (c .flagged .ensures, c .before .before .before .out-of-range .ensures, ← c .before .before .is-mirror .ensures, c .before .if1 .left)
+returns-2 c = search (needs, way-dropped, way-kept)
 
 pub out-of-range-spec : {M : Type 1} → statement M
 out-of-range-spec =
@@ -33,7 +32,8 @@ out-of-range-spec =
     (tie.spec
     out-of-range-requires
     is-mirror-requires
-    dropped-requires
+    none-requires
+    marked-requires
     returns
-    flagged-requires
+    marked-requires-2
     returns-2)

@@ -1,7 +1,6 @@
 -- `head::state::Head::ticked` meets its contract: the last tick of a task, and any other.
 -- Assumes nothing.
-use borrow.Author.Tests.{eq-eqb, ne-eqb}
-use Rattle.head.specs.Tick.{passed}
+use Rattle.head.proofs.Ways.{way-ended, way-going}
 use borrow.Author.Needs.{needs}
 use Rattle.head.proofs.state.Head.ticked.Statement.{statement}
 use Rattle.head.proofs.state.Head.ticked.Tie as tie
@@ -13,19 +12,13 @@ none-requires : tie.Need-none-requires
 none-requires c κs = search needs
 
 returns : tie.Need-returns
-unfolding passed
-returns c =
-    let s = c .before .before .before .before .before .args .self in
-    simp (c .none .ensures, c .before .before .before .before .lessened .ensures, eq-eqb (s .work .busy) 1 (c .before .before .if1 .taken))
+returns c = search (needs, way-ended, way-going)
 
 down-requires : tie.Need-down-requires
 down-requires c κs = search needs
 
 returns-2 : tie.Need-returns-2
-unfolding passed
-returns-2 c =
-    let s = c .before .before .before .before .args .self in
-    simp (c .down .ensures, c .before .before .before .lessened .ensures, ne-eqb (s .work .busy) 1 (c .before .if1 .left))
+returns-2 c = search (needs, way-ended, way-going)
 
 pub ticked-spec : {M : Type 1} → statement M
 ticked-spec = tie.close (tie.spec lessened-requires none-requires returns down-requires returns-2)
