@@ -259,5 +259,6 @@ pub fn write_ccd(
     ensures { λ r. ⌜ now (buffer .exit) ≡ bufferAfter r (ccdBlockOf head flags acquired readings bits) (now (buffer .entry)) ⌝ }
 {
     let status = CcdMeaning::shown(head, flags, acquired, bits).status();
-    write_block(head.in_range(), &readings, &status, buffer)
+    let fine = head.in_range();
+    write_block(fine, &readings, &status, buffer)
 }

@@ -226,5 +226,6 @@ pub fn write_ir(
     ensures { λ r. ⌜ now (buffer .exit) ≡ bufferAfter r (irBlockOf head flags acquired readings bits) (now (buffer .entry)) ⌝ }
 {
     let status = IrMeaning::shown(head, flags, acquired, bits).status();
-    write_block(head.in_range(), &readings, &status, buffer)
+    let fine = head.in_range();
+    write_block(fine, &readings, &status, buffer)
 }

@@ -46,7 +46,8 @@ pub(crate) fn write_block(
 {
     let first = readings.len();
     let second = status.len();
-    if buffer.len() != first + second {
+    let size = first + second;
+    if buffer.len() != size {
         return Written::Refused(Refusal::Length);
     }
     if !in_range {

@@ -7,8 +7,8 @@ use borrow.Author.Needs.{needs}
 use Rattle.blocks.proofs.written.write_block.Statement.{statement}
 use Rattle.blocks.proofs.written.write_block.Tie as tie
 
-add-if1 : tie.Need-add-if1
-add-if1 c = search needs
+add-size : tie.Need-add-size
+add-size c = search needs
 
 returns : tie.Need-returns
 unfolding writtenIf bufferAfter
@@ -34,4 +34,4 @@ returns-3 c = search (needs, equal, passes, copied-both)
 pub write-block-spec : {M : Type 1} → statement M
 write-block-spec =
     tie.close
-    (tie.spec add-if1 returns returns-2 copy-in-requires copy-in-requires-2 same-length returns-3)
+    (tie.spec add-size returns returns-2 copy-in-requires copy-in-requires-2 same-length returns-3)
