@@ -115,6 +115,8 @@ pub fn random_plans(sides: &Sides, random: &mut Random, times: u32) -> Counted {
 pub fn at_limits(sides: &Sides, random: &mut Random, times: u32) -> Counted {
     let mut plans = limit_plans::alone();
     plans.extend(limit_plans::in_turn());
+    plans.extend(limit_plans::last_after_waits());
+    plans.extend(limit_plans::motions_after_waits().pop());
     plans.extend(limit_plans::exposures_after_settings());
     plans.extend(limit_plans::of_every_word_count());
     let mut count = 0;

@@ -55,6 +55,7 @@ pub fn all() -> Vec<Vec<Order>> {
     let mut plans = alone();
     plans.extend(in_turn());
     plans.extend(one_after_another());
+    plans.extend(motions_after_waits());
     plans.extend(exposures_after_settings());
     plans.extend(of_every_word_count());
     plans
@@ -86,6 +87,33 @@ fn one_after_another() -> Vec<Vec<Order>> {
         }
     }
     plans
+}
+
+/// 63 waits, then one order of each other sort: acts at the latest ticks.
+pub fn last_after_waits() -> Vec<Vec<Order>> {
+    let waits: Vec<Order> = (1..MOST_ORDERS).map(longest_wait).collect();
+    let plans = EXTREMES.iter();
+    let plans = plans.map(|order| [&waits[..], &[order(0)]].concat());
+    plans.collect()
+}
+
+/// Every number of waits, then each motion and what must wait for it.
+pub fn motions_after_waits() -> Vec<Vec<Order>> {
+    const MOTIONS: [fn(usize) -> Order; 8] = [
+        mirror,
+        exposure,
+        motor_on,
+        exposure,
+        longest_cover_move,
+        longest_cover_move,
+        exposure,
+        housekeeping,
+    ];
+    let plan = |waits: usize| {
+        let motions = (0..).zip(MOTIONS).map(|(index, order)| order(index));
+        (0..waits).map(longest_wait).chain(motions).collect()
+    };
+    (0..=MOST_ORDERS - MOTIONS.len()).map(plan).collect()
 }
 
 fn pairs() -> Vec<[fn(usize) -> Order; 2]> {
