@@ -6,9 +6,11 @@ use shabgozim::MOST_WORDS;
 
 const LONGEST_TIME: i32 = 1023;
 
-/// The orders with the most words and those that take the longest, each by
-/// its index in the plan.
-const EXTREMES: [fn(usize) -> Order; 7] = [
+/// A sort of order: each by its index in the plan.
+type Sort = fn(usize) -> Order;
+
+/// The orders with the most words and those that take the longest.
+const EXTREMES: [Sort; 7] = [
     mirror,
     window,
     longest_wait,
@@ -70,7 +72,7 @@ pub fn alone() -> Vec<Vec<Order>> {
 
 /// 64 orders of two sorts in turn.
 pub fn in_turn() -> Vec<Vec<Order>> {
-    let plan = |pair: [fn(usize) -> Order; 2]| {
+    let plan = |pair: [Sort; 2]| {
         let orders = (0..MOST_ORDERS).map(|index| pair[index % 2](index / 2));
         orders.collect()
     };
@@ -99,7 +101,7 @@ pub fn last_after_waits() -> Vec<Vec<Order>> {
 
 /// Every number of waits, then each motion and what must wait for it.
 pub fn motions_after_waits() -> Vec<Vec<Order>> {
-    const MOTIONS: [fn(usize) -> Order; 8] = [
+    const MOTIONS: [Sort; 8] = [
         mirror,
         exposure,
         motor_on,
@@ -116,15 +118,14 @@ pub fn motions_after_waits() -> Vec<Vec<Order>> {
     (0..=MOST_ORDERS - MOTIONS.len()).map(plan).collect()
 }
 
-fn pairs() -> Vec<[fn(usize) -> Order; 2]> {
-    let places = 0..EXTREMES.len();
-    let pairs = places
-        .clone()
-        .flat_map(|first| places.clone().map(move |second| (first, second)));
-    let different = pairs.filter(|(first, second)| first != second);
-    different
-        .map(|(first, second)| [EXTREMES[first], EXTREMES[second]])
-        .collect()
+/// Any two different sorts, in either order.
+fn pairs() -> Vec<[Sort; 2]> {
+    let mut pairs = Vec::new();
+    for (place, first) in EXTREMES.into_iter().enumerate() {
+        let (before, after) = (&EXTREMES[..place], &EXTREMES[place + 1..]);
+        pairs.extend(before.iter().chain(after).map(|&second| [first, second]));
+    }
+    pairs
 }
 
 /// The longest and shortest times in each readout, then exposures.

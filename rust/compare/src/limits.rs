@@ -10,8 +10,9 @@ use crate::reduce::Counted;
 use crate::sides::Sides;
 use crate::states::{self, longest_times};
 
-/// About what fits into 16 bits, and more.
-const LONG_BUFFERS: [usize; 4] = [65_535, 65_536, 65_537, 131_072];
+const LONGEST_BUFFER: usize = 131_072;
+/// About as long as 16 bits can say, and longer.
+const LONG_BUFFERS: [usize; 4] = [65_535, 65_536, 65_537, LONGEST_BUFFER];
 
 /// Fixed plans at every limit, and random ones near the limits.
 pub fn plans(sides: &Sides, random: &mut Random, times: u32) -> Counted {
@@ -49,7 +50,7 @@ fn lengths_about_count(translator: &mut Translator, case: &PlanCase) -> Counted 
 
 /// As many words as can be, into buffers that are far longer.
 fn long_buffers(sides: &Sides) -> Counted {
-    let mut translator = Translator::with_room(sides, LONG_BUFFERS[3]);
+    let mut translator = Translator::with_room(sides, LONGEST_BUFFER);
     let mut count = 0;
     for orders in limit_plans::alone() {
         let mut case = PlanCase::from_power_on(orders::plan(&orders));
@@ -68,10 +69,10 @@ fn random_plans(
     translator: &mut Translator,
     random: &mut Random,
     sort: fn(&mut Random) -> Vec<Order>,
-    times: u32,
+    plans: u32,
 ) -> Counted {
     let mut count = 0;
-    for _ in 0..times {
+    for _ in 0..plans {
         let plan = orders::plan(&sort(random));
         let mut case = PlanCase::new(&states::idle(random), plan);
         count += translator.compare(&case)?;

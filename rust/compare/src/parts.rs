@@ -5,15 +5,17 @@ use crate::reduce::Counted;
 use crate::sides::Sides;
 use crate::{blocks, codec, demand3, limits, plans, steps, unpacked};
 
+pub type Compare = fn(&Sides, &mut Random, u32) -> Counted;
+
 /// One part. It is given the sides, the source of its random inputs, and how
 /// many times as many of them it makes.
 #[derive(Clone, Copy)]
 pub struct Part {
     pub name: &'static str,
-    pub compare: fn(&Sides, &mut Random, u32) -> Counted,
+    pub compare: Compare,
 }
 
-const fn part(name: &'static str, compare: fn(&Sides, &mut Random, u32) -> Counted) -> Part {
+const fn part(name: &'static str, compare: Compare) -> Part {
     Part { name, compare }
 }
 

@@ -6,6 +6,7 @@ use crate::plan_answer::PlanAnswer;
 use crate::reduce::{failure, Case, Counted};
 use crate::sides::{Functions, Sides};
 use crate::states;
+use shabgozim::MOST_WORDS;
 use std::fmt;
 
 /// Longer than any list can be.
@@ -70,10 +71,11 @@ impl Translator {
         }
     }
 
-    /// How many words the plan has; 0 where both sides refuse it.
+    /// How many words the plan has, as either side says; 0 where both refuse
+    /// it, and never more than a plan can have.
     pub fn words_needed(&mut self, case: &PlanCase) -> usize {
         let (answer, expected) = self.answers(case);
-        let count = |answer| PlanAnswer::of(answer).count;
+        let count = |answer| PlanAnswer::of(answer).count.min(MOST_WORDS);
         count(answer).max(count(expected))
     }
 

@@ -1,4 +1,4 @@
-//! Translation of plans: valid, at every limit, and damaged.
+//! Translation of plans: every field value, every form, and damaged ones.
 
 use crate::orders::{self, Order, FIELDS, FIRST_PLACE, MOST_ORDERS};
 use crate::plan_case::{PlanCase, Translator, ROOM};

@@ -2,6 +2,9 @@
 
 use super::{Library, Paper, Shown, Side, Typed};
 
+/// State, plan, and the buffers for words and ticks.
+pub type Translate = fn(&[u16], &[u8], &mut [u16], &mut [u32]) -> u64;
+
 /// The functions of [`Side`].
 #[derive(Clone, Copy)]
 pub struct Functions {
@@ -11,7 +14,7 @@ pub struct Functions {
     pub tick: fn(&mut [u16]) -> u32,
     pub decode: fn(u16) -> u32,
     pub encode: fn(u8, u16) -> u32,
-    pub translate: fn(&[u16], &[u8], &mut [u16], &mut [u32]) -> u64,
+    pub translate: Translate,
     pub write_ir: fn(&[u16], Shown, &[u16], &mut [u16]) -> u32,
     pub write_ccd: fn(&[u16], Shown, &[u16], &mut [u16]) -> u32,
     pub read_ir: fn(&[u16], &mut [u16]) -> u32,
