@@ -43,6 +43,12 @@ pub const FAULTS: &[Fault] = &[
         is_reduced: |text| orders(text) == 63,
     },
     Fault {
+        name: "the count is one that no plan can have",
+        put: |sides| sides.paper.translate = count_too_large,
+        part: "plans at the limits",
+        is_reduced: |text| text.starts_with("plan 01 00 00\nfrom power-on\n"),
+    },
+    Fault {
         name: "a place past the count is written",
         put: |sides| sides.paper.translate = writes_past_count,
         part: "plan fields",
@@ -147,6 +153,14 @@ fn tick_too_small(state: &[u16], plan: &[u8], words: &mut [u16], ticks: &mut [u3
         late.for_each(|tick| *tick -= 1);
     }
     answer
+}
+
+fn count_too_large(state: &[u16], plan: &[u8], words: &mut [u16], ticks: &mut [u32]) -> u64 {
+    let answer = Paper::translate(state, plan, words, ticks);
+    match PlanAnswer::of(answer).number {
+        0 => answer | 0xFFFF << 8,
+        _ => answer,
+    }
 }
 
 fn writes_past_count(state: &[u16], plan: &[u8], words: &mut [u16], ticks: &mut [u32]) -> u64 {
