@@ -18,6 +18,7 @@ use Rattle.words.proofs.Tests.{and-left, and-right}
 use Rattle.head.specs.State.{noneBegun, noFlags}
 use Rattle.head.specs.Range.{allPass, registerTests, latchTests, motionTests, begunTests, workInRange, inRange}
 use Rattle.head.specs.Limits.{lengthBy, lengthOf}
+use Rattle.head.specs.Numbers.{taskNumber}
 use Rattle.head.specs.Apply.{after}
 use Rattle.head.specs.Word.{marked}
 use Rattle.head.specs.Tick.{moved}
@@ -123,7 +124,7 @@ module _ (h : Head) (l : List ℕ) (own : l ≡ numbersOf h) where
   -- a tick's numbers: m and c are the motions that are left, n the busy ticks
   module _ (m c : ℕ) (em : m ≡ h .motion .mirror - 1) (ec : c ≡ h .motion .cover - 1) where
     pub ended-stored : sets l 22 (0 ∷ 0 ∷ 0 ∷ 0 ∷ 0 ∷ 0 ∷ 0 ∷ m ∷ c ∷ []) ≡ numbersOf (moved h noFlags (record { task = Idle; busy = 0 }))
-    unfolding numbersOf
+    unfolding numbersOf taskNumber
     ended-stored = rw (own, em, ec)
 
     pub going-stored : (n : ℕ) → n ≡ h .work .busy - 1
@@ -132,7 +133,7 @@ module _ (h : Head) (l : List ℕ) (own : l ≡ numbersOf h) where
     going-stored n en = rw (own, em, ec, en)
 
   pub placed-after : (b k : ℕ) → k < 28 → placed l k b ≡ numbersOf (after h k b)
-  unfolding placed registerOf registers controlled mirrored remaining numbersOf after lengthOf lengthBy
+  unfolding placed registerOf registers controlled mirrored remaining numbersOf taskNumber after lengthOf lengthBy
   placed-after b =
       rw own
       (by-kind (λ k. placed (numbersOf h) k b ≡ numbersOf (after h k b))

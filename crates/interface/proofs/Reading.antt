@@ -42,7 +42,7 @@ either number false x y hx hy = hy
 
 pub ir-reader :
     Reader ir.Block ir.Refused (λ (r : IrRead). r .answer) (λ (r : IrRead). r .readings) irReadOf irAnswerOf irNumbers irReadFor irAnswer irSaidNumbers irNumbersAfter
-unfolding irReadOf irReadingsOf irReadFor irAnswer irNumbersAfter irAnswerOf irJudged refusalAnswer refusalNumber refusalPlace
+unfolding irReadOf irReadingsOf irReadFor irAnswer irNumbersAfter irAnswerOf irJudged refusalAnswer
 ir-reader =
     record {
       read-answer = λ block. refl;
@@ -56,7 +56,7 @@ ir-reader =
 
 pub ccd-reader :
     Reader ccd.Block ccd.Refused (λ (r : CcdRead). r .answer) (λ (r : CcdRead). r .readings) ccdReadOf ccdAnswerOf ccdNumbers ccdReadFor ccdAnswer ccdSaidNumbers ccdNumbersAfter
-unfolding ccdReadOf ccdReadingsOf ccdReadFor ccdAnswer ccdNumbersAfter ccdAnswerOf ccdJudged ccdRestJudged refusalAnswer refusalNumber refusalPlace
+unfolding ccdReadOf ccdReadingsOf ccdReadFor ccdAnswer ccdNumbersAfter ccdAnswerOf ccdJudged ccdRestJudged refusalAnswer
 ccd-reader =
     record {
       read-answer = λ block. refl;
@@ -76,9 +76,9 @@ module _ {M A R : Type 0} {says : M → A} {refused : Refusal → A} {answer : R
     unfit : readFor block old ≡ refused Length
     unfit = c .read-for block old ∙ rw (ne-eqb (length old) count short)
 
-    pub unfit-answer : 11 ≡ number (readFor block old)
-    unfolding refusalAnswer refusalNumber refusalPlace
-    unfit-answer = rw unfit (sym (c .refused-number Length))
+    pub unfit-answer : (r : ℕ) → r ≡ refusalNumber Length → r ≡ number (readFor block old)
+    unfolding refusalAnswer
+    unfit-answer r is = rw unfit (is ∙ sym (c .refused-number Length))
 
     pub unfit-left : old ≡ after (readFor block old) block old
     unfit-left = rw unfit (sym (c .refused-after Length block old))

@@ -9,11 +9,12 @@ use borrow.Author.Tests.{leb-true, eqb-true, eq-eqb, ne-eqb}
 use lib.Dec.{eqb, leb}
 use lib.ListN.{length}
 use Rattle.words.proofs.Tests.{and-left, and-right}
+use Rattle.head.specs.Numbers.{taskNumber}
 use Rattle.head.specs.declared.state.Head.{Head}
 use Rattle.head.specs.declared.state.Task.{Task}
 use Rattle.head.specs.declared.state.Task.the-variants.{Idle, Acquisition, Housekeeping}
 use Rattle.interface.proofs.Storing.{listed}
-use Rattle.interface.specs.State.{places, bitOf, flagOf, taskNumber, taskOf, numbersOf, stateOf, wellFormed, at}
+use Rattle.interface.specs.State.{places, bitOf, flagOf, taskOf, numbersOf, stateOf, wellFormed, at}
 
 bit-flag : (b : Bool) → flagOf (bitOf b) ≡ b
 bit-flag true = refl
@@ -25,13 +26,13 @@ flag-bit (suc zero) e = refl
 flag-bit (suc (suc n)) e = absurd (omega (arith, leb-true (suc (suc n)) 1 e))
 
 number-task : (t : Task) → taskOf (taskNumber t) ≡ t
-unfolding taskOf
+unfolding taskOf taskNumber
 number-task Idle = refl
 number-task Acquisition = refl
 number-task Housekeeping = refl
 
 task-number : (n : ℕ) → leb n 2 ≡ true → taskNumber (taskOf n) ≡ n
-unfolding taskOf
+unfolding taskOf taskNumber
 task-number zero e = refl
 task-number (suc zero) e = refl
 task-number (suc (suc zero)) e = refl

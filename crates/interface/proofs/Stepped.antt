@@ -24,11 +24,11 @@ use Rattle.head.specs.Flags.{timeBoth, timeIr, wordBoth, scanned, outOfRangeFla
 use Rattle.head.specs.Apply.{actOf}
 use Rattle.head.specs.Word.{marked, outOfTurn, onWord, onDecoded, stopWord, answerOf}
 use Rattle.head.specs.Tick.{passed}
-use Rattle.head.specs.Numbers.{actNumber, causeNumber, outcomeNumber}
+use Rattle.head.specs.Numbers.{actNumber, causeNumber, outcomeNumber, taskNumber}
 use Rattle.head.specs.declared.state.Flags.{Flags}
 use Rattle.head.specs.declared.state.Task.{Task}
 use Rattle.head.specs.declared.word.Act.{Act}
-use Rattle.interface.specs.State.{places, at, taskNumber, taskOf, flagsOf, flagNumbers, numbersOf, stateOf, valid}
+use Rattle.interface.specs.State.{places, at, taskOf, flagsOf, flagNumbers, numbersOf, stateOf, valid}
 use Rattle.interface.specs.Stepping.{flagBits, dueAnswer}
 use Rattle.interface.specs.InPlace.{registers, registerOf, controlled, mirrored, remaining, placed}
 use Rattle.interface.proofs.InPlace.{valid-ranged, valid-own, flags-stored, drop-stored, ended-stored, going-stored, placed-after}

@@ -107,18 +107,19 @@ module _ (t : Translated) (small : Small t) (n m : ℕ) where
   unfolding countIn
   short-count e = rw e at (small .0)
 
-module _ (t : Translated) (r n m : ℕ) where
-  pub done-answer : t ≡ Done n m → r ≡ packed 0 n m → r ≡ translatedAnswer t
+-- x is the answer's own number
+module _ (t : Translated) (x r n m : ℕ) (own : x ≡ translatedNumber t) where
+  pub done-answer : t ≡ Done n m → r ≡ packed x n m → r ≡ translatedAnswer t
   unfolding translatedAnswer countIn lastIn
-  done-answer e is = rw e is
+  done-answer e is = is ∙ rw (own, e)
 
-  pub refused-answer : t ≡ Refused n m → r ≡ packed n 0 m → r ≡ translatedAnswer t
+  pub refused-answer : t ≡ Refused n m → r ≡ packed x 0 m → r ≡ translatedAnswer t
   unfolding translatedAnswer countIn lastIn
-  refused-answer e is = rw e is
+  refused-answer e is = is ∙ rw (own, e)
 
-  pub short-answer : t ≡ Short n → r ≡ packed 10 n 0 → r ≡ translatedAnswer t
+  pub short-answer : t ≡ Short n → r ≡ packed x n 0 → r ≡ translatedAnswer t
   unfolding translatedAnswer countIn lastIn
-  short-answer e is = rw e is
+  short-answer e is = is ∙ rw (own, e)
 
 -- the ways through the exported function: l is the state's array, i what `well_formed` answered, a and b the buffers' lengths
 module _ (l bs : List ℕ) (a b : ℕ) (i : Bool) (is : i ≡ wellFormed l) where

@@ -12,6 +12,7 @@ use Rattle.head.specs.Word.{answerOf}
 use Rattle.head.specs.Tick.{tickOf, passed}
 use Rattle.head.specs.Numbers.{causeNumber, outcomeNumber}
 use Rattle.head.specs.declared.state.Head.{Head}
+use Rattle.head.specs.declared.word.Cause.the-variants.{State}
 use Rattle.interface.specs.State.{places, numbersOf, stateOf, wellFormed, valid}
 use Rattle.interface.specs.Stepping.{powerOnAnswer, powerOnState, rangeAnswer, wordAnswer, wordState, dueAnswer, tickAnswer, tickState}
 use Rattle.interface.proofs.RoundTrip.{well-formed-length, numbers-state}
@@ -19,9 +20,9 @@ use Rattle.interface.proofs.InPlace.{valid-formed, valid-long, valid-ra
 
 module _ (l : List ℕ) where
   module _ (short : length l ≡ places → ⊥) where
-    pub power-on-refused : 21 ≡ powerOnAnswer l
+    pub power-on-refused : (r : ℕ) → r ≡ causeNumber State → r ≡ powerOnAnswer l
     unfolding powerOnAnswer
-    power-on-refused = rw (ne-eqb (length l) places short)
+    power-on-refused r is = rw (ne-eqb (length l) places short) is
 
     pub power-on-left : l ≡ powerOnState l
     unfolding powerOnState
@@ -46,9 +47,9 @@ module _ (l : List ℕ) (v : Bool) (is : v ≡ valid l) where
   unfolding rangeAnswer
   range-yes e = rw (← is, e)
 
-  pub range-no : v ≡ false → 21 ≡ rangeAnswer l
+  pub range-no : v ≡ false → (r : ℕ) → r ≡ causeNumber State → r ≡ rangeAnswer l
   unfolding rangeAnswer
-  range-no e = rw (← is, e)
+  range-no e r own = rw (← is, e) own
 
   module _ (good : not v ≡ false) where
     pub held : valid l ≡ true
@@ -87,13 +88,13 @@ module _ (l : List ℕ) (v : Bool) (is : v ≡ valid l) where
     out p = rw p at not-held
 
     module _ (w : ℕ) where
-      pub word-refused : 21 ≡ wordAnswer l w
-      unfolding wordAnswer answerOf outcomeNumber causeNumber
-      word-refused = go (wellFormed l) refl
+      pub word-refused : (r : ℕ) → r ≡ causeNumber State → r ≡ wordAnswer l w
+      unfolding wordAnswer answerOf outcomeNumber
+      word-refused r is = go (wellFormed l) refl
         where
-          go : (f : Bool) → wellFormed l ≡ f → 21 ≡ wordAnswer l w
-          go false p = rw p
-          go true p = rw (p, out p)
+          go : (f : Bool) → wellFormed l ≡ f → r ≡ wordAnswer l w
+          go false p = rw p is
+          go true p = rw (p, out p) is
 
       pub word-left : l ≡ wordState l w
       unfolding wordState answerOf
@@ -103,13 +104,13 @@ module _ (l : List ℕ) (v : Bool) (is : v ≡ valid l) where
           go false p = rw p
           go true p = rw (p, out p) (sym (numbers-state l p))
 
-    pub tick-refused : 21 ≡ tickAnswer l
+    pub tick-refused : (r : ℕ) → r ≡ causeNumber State → r ≡ tickAnswer l
     unfolding tickAnswer tickOf dueAnswer
-    tick-refused = go (wellFormed l) refl
+    tick-refused r is = go (wellFormed l) refl
       where
-        go : (f : Bool) → wellFormed l ≡ f → 21 ≡ tickAnswer l
-        go false p = rw p
-        go true p = rw (p, out p)
+        go : (f : Bool) → wellFormed l ≡ f → r ≡ tickAnswer l
+        go false p = rw p is
+        go true p = rw (p, out p) is
 
     pub tick-left : l ≡ tickState l
     unfolding tickState tickOf

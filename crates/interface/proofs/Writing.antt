@@ -26,9 +26,8 @@ module _ (n count : ℕ) (l readings old : List ℕ) where
     unfolding blockWritten
     few = rw (ne-eqb (length readings) count short)
 
-    pub few-number : 11 ≡ writtenNumber here
-    unfolding writtenNumber refusalNumber
-    few-number = rw few
+    pub few-number : (r : ℕ) → r ≡ refusalNumber Length → r ≡ writtenNumber here
+    few-number r is = rw few is
 
     pub few-left : (block : List ℕ) → old ≡ bufferAfter here block old
     unfolding bufferAfter
@@ -40,9 +39,8 @@ module _ (n count : ℕ) (l readings old : List ℕ) where
       unfolding blockWritten writtenIf
       unfit = rw (eq-eqb (length readings) count enough, ne-eqb (length old) n other)
 
-      pub unfit-number : 11 ≡ writtenNumber here
-      unfolding writtenNumber refusalNumber
-      unfit-number = rw unfit
+      pub unfit-number : (r : ℕ) → r ≡ refusalNumber Length → r ≡ writtenNumber here
+      unfit-number r is = rw unfit is
 
       pub unfit-left : (block : List ℕ) → old ≡ bufferAfter here block old
       unfolding bufferAfter
@@ -54,9 +52,8 @@ module _ (n count : ℕ) (l readings old : List ℕ) where
         unfolding blockWritten writtenIf valid
         ill = rw (eq-eqb (length readings) count enough, eq-eqb (length old) n long, sym is ∙ not-true b bad)
 
-        pub ill-number : 21 ≡ writtenNumber here
-        unfolding writtenNumber refusalNumber
-        ill-number = rw ill
+        pub ill-number : (r : ℕ) → r ≡ refusalNumber State → r ≡ writtenNumber here
+        ill-number r is = rw ill is
 
         pub ill-left : (block : List ℕ) → old ≡ bufferAfter here block old
         unfolding bufferAfter

@@ -6,6 +6,7 @@ use mathlib.Core.List.{List, [], _∷_, _++_}
 use lib.Dec.{eqb, leb}
 use lib.ListN.{length, getD}
 use Rattle.head.specs.Range.{inRange}
+use Rattle.head.specs.Numbers.{taskNumber}
 use Rattle.head.specs.declared.state.Head.{Head}
 use Rattle.head.specs.declared.state.Settings.{Settings}
 use Rattle.head.specs.declared.state.Latches.{Latches}
@@ -26,12 +27,7 @@ bitOf b = cond b 1 0
 abbrev pub flagOf : ℕ → Bool
 flagOf n = eqb n 1
 
--- No task is 0, an acquisition 1, housekeeping 2.
-abbrev pub taskNumber : Task → ℕ
-taskNumber Idle = 0
-taskNumber Acquisition = 1
-taskNumber Housekeeping = 2
-
+-- The task that has this number.
 unfoldable pub taskOf : ℕ → Task
 taskOf n = cond (eqb n 0) Idle (cond (eqb n 1) Acquisition Housekeeping)
 

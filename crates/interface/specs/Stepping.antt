@@ -9,15 +9,16 @@ use lib.ListN.{length}
 use Rattle.head.specs.State.{powerOn}
 use Rattle.head.specs.Word.{answerOf}
 use Rattle.head.specs.Tick.{tickOf}
-use Rattle.head.specs.Numbers.{outcomeNumber}
+use Rattle.head.specs.Numbers.{causeNumber, outcomeNumber, taskNumber}
 use Rattle.head.specs.declared.state.Flags.{Flags}
+use Rattle.head.specs.declared.word.Cause.the-variants.{State}
 use Rattle.head.specs.declared.tick.Due.{Due}
 use Rattle.head.specs.declared.tick.Due.the-variants.{Nothing, Blocks, Refused}
-use Rattle.interface.specs.State.{places, bitOf, taskNumber, numbersOf, stateOf, wellFormed, valid}
+use Rattle.interface.specs.State.{places, bitOf, numbersOf, stateOf, wellFormed, valid}
 
 -- Document 01's number for a state outside its ranges.
 abbrev pub stateRefused : ℕ
-stateRefused = 21
+stateRefused = causeNumber State
 
 -- The power-on state is written to an array of 35 places.
 unfoldable pub powerOnAnswer : List ℕ → ℕ

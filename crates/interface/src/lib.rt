@@ -16,7 +16,9 @@ use blocks::ir::IR_WORDS;
 use blocks::ir::IrAnswer;
 use blocks::ir::read_ir;
 use blocks::ir::write_ir;
+use blocks::refusal::Refusal;
 use head::state::Head;
+use schedule::STATE_UNFIT;
 use schedule::translate::translate;
 use state::PLACES;
 ghost use mathlib.Core.Path.{_≡_};
@@ -41,7 +43,7 @@ pub extern "C" fn shabgozim_power_on(state: &mut [u16]) -> u32
     ensures { λ _. ⌜ now (state .exit) ≡ powerOnState (now (state .entry)) ⌝ }
 {
     if state.len() != PLACES {
-        return answers::STATE_REFUSED;
+        return answers::state_refused();
     }
     state::store(state, Head::power_on());
     0
@@ -54,7 +56,7 @@ pub extern "C" fn shabgozim_in_range(state: &[u16]) -> u32
     if stepping::in_range(state) {
         return 0;
     }
-    answers::STATE_REFUSED
+    answers::state_refused()
 }
 
 // Gives the head a word.
@@ -64,7 +66,7 @@ pub extern "C" fn shabgozim_word(state: &mut [u16], word: u16) -> u32
     ensures { λ _. ⌜ now (state .exit) ≡ wordState (now (state .entry)) word ⌝ }
 {
     if !stepping::in_range(state) {
-        return answers::STATE_REFUSED;
+        return answers::state_refused();
     }
     stepping::word(state, word)
 }
@@ -76,7 +78,7 @@ pub extern "C" fn shabgozim_tick(state: &mut [u16]) -> u32
     ensures { λ _. ⌜ now (state .exit) ≡ tickState (now (state .entry)) ⌝ }
 {
     if !stepping::in_range(state) {
-        return answers::STATE_REFUSED;
+        return answers::state_refused();
     }
     stepping::tick(state)
 }
@@ -108,7 +110,7 @@ pub extern "C" fn shabgozim_translate(
     ensures { λ _. ⌜ now (ticks .exit) ≡ filled (translatedOf (now (state .entry)) (now (plan .entry)) (length (now (words .entry))) (length (now (ticks .entry)))) (tickList (scheduleOf (stateOf (now (state .entry))) (planOf (now (plan .entry))))) (now (ticks .entry)) ⌝ }
 {
     if !state::well_formed(state) {
-        return answers::PLAN_STATE;
+        return STATE_UNFIT as u64;
     }
     let translated = translate(state::load(state), plan, words, ticks);
     answers::translated_number(translated)
@@ -128,19 +130,19 @@ pub extern "C" fn shabgozim_write_ir(
     ensures { λ _. ⌜ now (block .exit) ≡ bufferAfter (blockWritten irWords irReadings (now (state .entry)) (now (readings .entry)) (now (block .entry))) (irBlockFor (now (state .entry)) flags ended bits (now (readings .entry))) (now (block .entry)) ⌝ }
 {
     if readings.len() != IR_READINGS {
-        return answers::LENGTH_REFUSED;
+        return Refusal::Length.number() as u32;
     }
     if block.len() != IR_WORDS {
-        return answers::LENGTH_REFUSED;
+        return Refusal::Length.number() as u32;
     }
     if !state::well_formed(state) {
-        return answers::STATE_REFUSED;
+        return Refusal::State.number() as u32;
     }
     let head = state::load(state);
     let shown = readings::flags_in(flags);
     let given = readings::ir_readings(readings);
     let said = readings::ir_bits_in(bits);
-    answers::written_number(write_ir(head, shown, ended == 1, given, said, block))
+    write_ir(head, shown, ended == 1, given, said, block).number() as u32
 }
 
 // Writes the CCD block of a state.
@@ -157,19 +159,19 @@ pub extern "C" fn shabgozim_write_ccd(
     ensures { λ _. ⌜ now (block .exit) ≡ bufferAfter (blockWritten ccdWords ccdReadings (now (state .entry)) (now (readings .entry)) (now (block .entry))) (ccdBlockFor (now (state .entry)) flags ended bits (now (readings .entry))) (now (block .entry)) ⌝ }
 {
     if readings.len() != CCD_READINGS {
-        return answers::LENGTH_REFUSED;
+        return Refusal::Length.number() as u32;
     }
     if block.len() != CCD_WORDS {
-        return answers::LENGTH_REFUSED;
+        return Refusal::Length.number() as u32;
     }
     if !state::well_formed(state) {
-        return answers::STATE_REFUSED;
+        return Refusal::State.number() as u32;
     }
     let head = state::load(state);
     let shown = readings::flags_in(flags);
     let given = readings::ccd_readings(readings);
     let said = readings::ccd_bits_in(bits);
-    answers::written_number(write_ccd(head, shown, ended == 1, given, said, block))
+    write_ccd(head, shown, ended == 1, given, said, block).number() as u32
 }
 
 // Reads an IR block into numbers.
@@ -179,7 +181,7 @@ pub extern "C" fn shabgozim_read_ir(block: &[u16], numbers: &mut [u16]) -> u32
     ensures { λ _. ⌜ now (numbers .exit) ≡ irNumbersAfter (irReadFor (now (block .entry)) (now (numbers .entry))) (now (block .entry)) (now (numbers .entry)) ⌝ }
 {
     if numbers.len() != readings::IR_NUMBERS {
-        return answers::LENGTH_REFUSED;
+        return Refusal::Length.number() as u32;
     }
     let read = read_ir(block);
     let answer = read.answer;
@@ -200,7 +202,7 @@ pub extern "C" fn shabgozim_read_ccd(block: &[u16], numbers: &mut [u16]) -> u32
     ensures { λ _. ⌜ now (numbers .exit) ≡ ccdNumbersAfter (ccdReadFor (now (block .entry)) (now (numbers .entry))) (now (block .entry)) (now (numbers .entry)) ⌝ }
 {
     if numbers.len() != readings::CCD_NUMBERS {
-        return answers::LENGTH_REFUSED;
+        return Refusal::Length.number() as u32;
     }
     let read = read_ccd(block);
     let answer = read.answer;

@@ -12,7 +12,7 @@ ghost use mathlib.Core.List.{[], _∷_};
 ghost use Prim.Native.Nat.{_+_, _≤_};
 ghost use lib.ListN.{length};
 ghost use lib.Seq.{sets};
-ghost use Rattle.interface.specs.State.{places, bitOf, taskNumber, taskOf, settingsOf, flagsOf, stateOf, registerNumbers, flagNumbers, activityNumbers, begunNumbers, numbersOf, wellFormed};
+ghost use Rattle.interface.specs.State.{places, bitOf, taskOf, settingsOf, flagsOf, stateOf, registerNumbers, flagNumbers, activityNumbers, begunNumbers, numbersOf, wellFormed};
 
 pub const PLACES: usize = 35;
 
@@ -20,16 +20,6 @@ pub fn bit(b: bool) -> u16
     ensures { λ r. ⌜ r ≡ bitOf b ⌝ }
 {
     if b { 1 } else { 0 }
-}
-
-pub fn task_number(task: Task) -> u16
-    ensures { λ r. ⌜ r ≡ taskNumber task ⌝ }
-{
-    match task {
-        Task::Idle => 0,
-        Task::Acquisition => 1,
-        Task::Housekeeping => 2,
-    }
 }
 
 pub(crate) fn task_of(n: u16) -> Task
@@ -172,7 +162,7 @@ fn activity_numbers(flags: Flags, work: Work, motion: Motion) -> [u16; 9]
         bit(flags.scan),
         bit(flags.vistime),
         bit(flags.visword),
-        task_number(task),
+        task.number() as u16,
         work.busy,
         motion.mirror,
         motion.cover,

@@ -1,5 +1,4 @@
 // The head's answers to words and ticks, worked on the array itself: only the numbers that change are stored.
-use crate::answers::act_number;
 use crate::answers::blocks_number;
 use crate::layout;
 use crate::state::PLACES;
@@ -288,7 +287,7 @@ fn known_word(s: &mut [u16], kind: u8, bits: u16) -> u32
         return 25;
     }
     apply(s, kind, bits);
-    act_number(act_of(kind, bits))
+    act_of(kind, bits).number()
 }
 
 // A word that is out of range.

@@ -5,6 +5,9 @@ use borrow.Author.Needs.{needs}
 use Rattle.interface.proofs.shabgozim_power_on.Statement.{statement}
 use Rattle.interface.proofs.shabgozim_power_on.Tie as tie
 
+state-refused-requires : tie.Need-state-refused-requires
+state-refused-requires c κs = search needs
+
 returns : tie.Need-returns
 returns c = search (needs, power-on-refused, power-on-left)
 
@@ -22,4 +25,4 @@ returns-2 c = search (needs, power-on-answer, power-on-state)
 
 pub shabgozim-power-on-spec : {M : Type 1} → statement M
 shabgozim-power-on-spec =
-    tie.close (tie.spec returns power-on-requires store-requires same-length returns-2)
+    tie.close (tie.spec state-refused-requires returns power-on-requires store-requires same-length returns-2)

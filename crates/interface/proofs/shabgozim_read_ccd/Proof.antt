@@ -5,6 +5,12 @@ use borrow.Author.Needs.{needs}
 use Rattle.interface.proofs.shabgozim_read_ccd.Statement.{statement}
 use Rattle.interface.proofs.shabgozim_read_ccd.Tie as tie
 
+number-requires : tie.Need-number-requires
+number-requires c κs = search needs
+
+cast-result : tie.Need-cast-result
+cast-result c = search needs
+
 returns : tie.Need-returns
 returns c = search (needs, unfit-answer ccd-reader, unfit-left ccd-reader)
 
@@ -36,7 +42,7 @@ pub shabgozim-read-ccd-spec : {M : Type 1} → statement M
 shabgozim-read-ccd-spec =
     tie.close
     (tie.spec
-    returns
+    number-requires cast-result returns
     read-ccd-requires
     enum-known-answer
     put-ccd-requires

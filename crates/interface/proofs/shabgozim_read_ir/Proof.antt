@@ -5,6 +5,12 @@ use borrow.Author.Needs.{needs}
 use Rattle.interface.proofs.shabgozim_read_ir.Statement.{statement}
 use Rattle.interface.proofs.shabgozim_read_ir.Tie as tie
 
+number-requires : tie.Need-number-requires
+number-requires c κs = search needs
+
+cast-result : tie.Need-cast-result
+cast-result c = search needs
+
 returns : tie.Need-returns
 returns c = search (needs, unfit-answer ir-reader, unfit-left ir-reader)
 
@@ -36,7 +42,7 @@ pub shabgozim-read-ir-spec : {M : Type 1} → statement M
 shabgozim-read-ir-spec =
     tie.close
     (tie.spec
-    returns
+    number-requires cast-result returns
     read-ir-requires
     enum-known-answer
     put-ir-requires

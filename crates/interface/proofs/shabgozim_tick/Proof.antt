@@ -8,6 +8,9 @@ use Rattle.interface.proofs.shabgozim_tick.Tie as tie
 in-range-requires : tie.Need-in-range-requires
 in-range-requires c κs = search needs
 
+state-refused-requires : tie.Need-state-refused-requires
+state-refused-requires c κs = search needs
+
 same-length : tie.Need-same-length
 same-length c = search needs
 
@@ -26,4 +29,4 @@ returns-2 c = search (needs, tick-answer, tick-state)
 pub shabgozim-tick-spec : {M : Type 1} → statement M
 shabgozim-tick-spec =
     tie.close
-    (tie.spec in-range-requires same-length returns tick-requires same-length-2 returns-2)
+    (tie.spec in-range-requires state-refused-requires same-length returns tick-requires same-length-2 returns-2)

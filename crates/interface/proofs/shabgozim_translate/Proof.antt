@@ -9,6 +9,9 @@ use Rattle.interface.proofs.shabgozim_translate.Tie as tie
 well-formed-requires : tie.Need-well-formed-requires
 well-formed-requires c κs = search needs
 
+cast-result : tie.Need-cast-result
+cast-result c = search needs
+
 returns : tie.Need-returns
 returns c = search (needs, translate-ill, translate-ill-left)
 
@@ -35,7 +38,7 @@ shabgozim-translate-spec =
     tie.close
     (tie.spec
     well-formed-requires
-    returns
+    cast-result returns
     load-requires
     translate-requires
     translated-number-requires

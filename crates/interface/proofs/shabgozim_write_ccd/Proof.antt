@@ -8,14 +8,32 @@ use borrow.Author.Needs.{needs}
 use Rattle.interface.proofs.shabgozim_write_ccd.Statement.{statement}
 use Rattle.interface.proofs.shabgozim_write_ccd.Tie as tie
 
+number-requires : tie.Need-number-requires
+number-requires c κs = search needs
+
+cast-result : tie.Need-cast-result
+cast-result c = search needs
+
 returns : tie.Need-returns
 returns c = search (needs, few-number, few-left)
+
+number-requires-2 : tie.Need-number-requires-2
+number-requires-2 c κs = search needs
+
+cast-result-2 : tie.Need-cast-result-2
+cast-result-2 c = search needs
 
 returns-2 : tie.Need-returns-2
 returns-2 c = search (needs, unfit-number, unfit-left)
 
 well-formed-requires : tie.Need-well-formed-requires
 well-formed-requires c κs = search needs
+
+number-requires-3 : tie.Need-number-requires-3
+number-requires-3 c κs = search needs
+
+cast-result-3 : tie.Need-cast-result-3
+cast-result-3 c = search needs
 
 returns-3 : tie.Need-returns-3
 returns-3 c = search (needs, ill-number, ill-left)
@@ -35,8 +53,11 @@ ccd-bits-in-requires c κs = search needs
 write-ccd-requires : tie.Need-write-ccd-requires
 write-ccd-requires c κs = search needs
 
-written-number-requires : tie.Need-written-number-requires
-written-number-requires c κs = search needs
+number-requires-4 : tie.Need-number-requires-4
+number-requires-4 c κs = search needs
+
+cast-result-4 : tie.Need-cast-result-4
+cast-result-4 c = search needs
 
 same-length : tie.Need-same-length
 same-length c = search needs
@@ -49,15 +70,22 @@ pub shabgozim-write-ccd-spec : {M : Type 1} → statement M
 shabgozim-write-ccd-spec =
     tie.close
     (tie.spec
+    number-requires
+    cast-result
     returns
+    number-requires-2
+    cast-result-2
     returns-2
     well-formed-requires
+    number-requires-3
+    cast-result-3
     returns-3
     load-requires
     flags-in-requires
     ccd-readings-requires
     ccd-bits-in-requires
     write-ccd-requires
-    written-number-requires
+    number-requires-4
+    cast-result-4
     same-length
     returns-4)

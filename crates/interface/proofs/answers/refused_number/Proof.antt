@@ -5,14 +5,17 @@ use borrow.Author.Needs.{needs}
 use Rattle.interface.proofs.answers.refused_number.Statement.{statement}
 use Rattle.interface.proofs.answers.refused_number.Tie as tie
 
-refusal-place-requires : tie.Need-refusal-place-requires
-refusal-place-requires c κs = search needs
+place-requires : tie.Need-place-requires
+place-requires c κs = search needs
 
 cast-place : tie.Need-cast-place
 cast-place c = search needs
 
-refusal-number-requires : tie.Need-refusal-number-requires
-refusal-number-requires c κs = search needs
+number-requires : tie.Need-number-requires
+number-requires c κs = search needs
+
+cast-result : tie.Need-cast-result
+cast-result c = search needs
 
 mul-result : tie.Need-mul-result
 mul-result c = search needs
@@ -27,10 +30,4 @@ returns c = cc
 pub refused-number-spec : {M : Type 1} → statement M
 refused-number-spec =
     tie.close
-    (tie.spec
-    refusal-place-requires
-    cast-place
-    refusal-number-requires
-    mul-result
-    add-result
-    returns)
+    (tie.spec place-requires cast-place number-requires cast-result mul-result add-result returns)

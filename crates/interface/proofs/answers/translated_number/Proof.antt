@@ -5,6 +5,9 @@ use borrow.Author.Needs.{needs}
 use Rattle.interface.proofs.answers.translated_number.Statement.{statement}
 use Rattle.interface.proofs.answers.translated_number.Tie as tie
 
+number-requires : tie.Need-number-requires
+number-requires c κs = search needs
+
 enum-known-translated : tie.Need-enum-known-translated
 enum-known-translated c = search needs
 
@@ -39,6 +42,7 @@ pub translated-number-spec : {M : Type 1} → statement M
 translated-number-spec =
     tie.close
     (tie.spec
+    number-requires
     enum-known-translated
     cast-packed
     packed-requires

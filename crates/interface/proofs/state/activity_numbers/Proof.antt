@@ -19,8 +19,11 @@ bit-requires-4 c κs = search needs
 bit-requires-5 : tie.Need-bit-requires-5
 bit-requires-5 c κs = search needs
 
-task-number-requires : tie.Need-task-number-requires
-task-number-requires c κs = search needs
+number-requires : tie.Need-number-requires
+number-requires c κs = search needs
+
+cast-t11 : tie.Need-cast-t11
+cast-t11 c = search needs
 
 returns : tie.Need-returns
 returns c = cc
@@ -34,5 +37,6 @@ activity-numbers-spec =
     bit-requires-3
     bit-requires-4
     bit-requires-5
-    task-number-requires
+    number-requires
+    cast-t11
     returns)

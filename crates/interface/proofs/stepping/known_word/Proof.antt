@@ -50,8 +50,8 @@ apply-requires c κs = search needs
 act-of-requires : tie.Need-act-of-requires
 act-of-requires c κs = search needs
 
-act-number-requires : tie.Need-act-number-requires
-act-number-requires c κs = search needs
+number-requires : tie.Need-number-requires
+number-requires c κs = search needs
 
 same-length-3 : tie.Need-same-length-3
 same-length-3 c = search needs
@@ -78,6 +78,6 @@ known-word-spec =
     returns-2
     apply-requires
     act-of-requires
-    act-number-requires
+    number-requires
     same-length-3
     returns-3)
