@@ -28,6 +28,7 @@ use Rattle.head.specs.Numbers.{actNumber, causeNumber, outcomeNumber, taskNumbe
 use Rattle.head.specs.declared.state.Flags.{Flags}
 use Rattle.head.specs.declared.state.Task.{Task}
 use Rattle.head.specs.declared.word.Act.{Act}
+use Rattle.head.proofs.Groups.{mirror-by}
 use Rattle.interface.specs.State.{places, at, taskOf, flagsOf, flagNumbers, numbersOf, stateOf, valid}
 use Rattle.interface.specs.Stepping.{flagBits, dueAnswer}
 use Rattle.interface.specs.InPlace.{registers, registerOf, controlled, mirrored, remaining, placed}
@@ -206,11 +207,11 @@ module _ (l : List ℕ) (ok : valid l ≡ true) where
       pub range-dropped : (leb 22 k && leb k 25) ≡ true → (last : List ℕ) → last ≡ sets first 31 (0 ∷ 0 ∷ 0 ∷ 0 ∷ [])
           → last ≡ numbersOf (onDecoded (stateOf l) (OutOfRange k) .head)
       unfolding onDecoded
-      range-dropped t last e₂ = rw t (rw (ef, es) at (dropped f first last e e₂))
+      range-dropped t last e₂ = rw (← mirror-by k, t) (rw (ef, es) at (dropped f first last e e₂))
 
       pub range-kept : (leb 22 k && leb k 25) ≡ false → first ≡ numbersOf (onDecoded (stateOf l) (OutOfRange k) .head)
       unfolding onDecoded
-      range-kept t = rw t (rw (ef, es) at (stored f first e))
+      range-kept t = rw (← mirror-by k, t) (rw (ef, es) at (stored f first e))
 
   -- `no_word`
   module _ (d : Decoded) where
