@@ -111,7 +111,8 @@ pub fn random_plans(sides: &Sides, random: &mut Random, times: u32) -> Counted {
     Ok(count)
 }
 
-/// Plans at the limits of translation, and random ones with late ends.
+/// Plans at the limits of translation from a state of the longest times, and
+/// random ones with late ends.
 pub fn at_limits(sides: &Sides, random: &mut Random, times: u32) -> Counted {
     let mut plans = limit_plans::alone();
     plans.extend(limit_plans::in_turn());
@@ -121,9 +122,7 @@ pub fn at_limits(sides: &Sides, random: &mut Random, times: u32) -> Counted {
     plans.extend(limit_plans::of_every_word_count());
     let mut count = 0;
     for orders in plans {
-        for state in [states::power_on(), states::longest_times()] {
-            count += DemandCase::new(state, &orders).compare(sides)?;
-        }
+        count += DemandCase::new(states::longest_times(), &orders).compare(sides)?;
     }
     for _ in 0..20 * times {
         let orders = late_end(random);
