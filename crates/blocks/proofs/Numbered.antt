@@ -8,10 +8,12 @@ use Rattle.head.specs.declared.state.Head.{Head}
 use Rattle.head.specs.declared.tick.Due.{Due}
 use Rattle.head.specs.declared.tick.Due.the-variants as due
 use Rattle.blocks.specs.Numbers.{refusalNumber, refusalPlace, writtenNumber, writtenPlace, irNumber, irPlace, ccdNumber, ccdPlace, dueWrittenNumber, dueWrittenPlace}
-use Rattle.blocks.specs.Written.{writtenIf, writtenOf, writeNumber}
+use Rattle.blocks.specs.Written.{writtenIf, writtenOf, writeNumber, bufferAfter}
 use Rattle.blocks.specs.Ir.{irJudged, irAnswerOf, irReadOf, irTold}
 use Rattle.blocks.specs.Ccd.{ccdJudged, ccdRestJudged, ccdAnswerOf, ccdReadOf, ccdTold}
-use Rattle.blocks.specs.Due.{bothWrittenOf, bothNumber, dueWrittenOf, dueNumber}
+use Rattle.blocks.specs.Due.{bothWrittenOf, bothNumber, dueWrittenOf, dueNumber, irDueAfter, ccdDueAfter}
+use Rattle.blocks.specs.declared.ir.IrBits.{IrBits}
+use Rattle.blocks.specs.declared.ccd.CcdBits.{CcdBits}
 use Rattle.blocks.specs.declared.ir.IrRead.{IrRead}
 use Rattle.blocks.specs.declared.ccd.CcdRead.{CcdRead}
 use Rattle.blocks.specs.declared.written.Written.{Written}
@@ -26,16 +28,22 @@ same : {A : Type 0} (b : Bool) (x : A) → cond b x x ≡ x
 same true x = refl
 same false x = refl
 
--- a writer's answer, and what is said of its buffers
-module _ {B : Type 0} (n : ℕ) (s : Head) (buffer : List ℕ) (w : Written) (is : w ≡ writtenOf n s buffer) (rest : B) where
-  pub write-numbered : (w ≡ writtenOf n s buffer) × ((writtenNumber w ≡ writeNumber n s buffer) × ((writtenPlace w ≡ 0) × B))
+-- a writer's answer, beside what is left of its buffers
+module _ (n : ℕ) (s : Head) (buffer : List ℕ) (w : Written) (is : w ≡ writtenOf n s buffer) where
+  pub write-numbered : (after block : List ℕ) → after ≡ bufferAfter w block buffer
+      → (w ≡ writtenOf n s buffer) × ((writtenNumber w ≡ writeNumber n s buffer) × ((writtenPlace w ≡ 0) × (after ≡ bufferAfter w block buffer)))
   unfolding writtenOf writtenIf writeNumber
-  write-numbered = (is, (rw is (simp (chosen writtenNumber)), (rw is (simp (chosen writtenPlace, same)), rest)))
+  write-numbered after block left =
+      (is, (rw is (simp (chosen writtenNumber)), (rw is (simp (chosen writtenPlace, same)), left)))
 
-module _ {B : Type 0} (s : Head) (ir ccd : List ℕ) (w : Written) (is : w ≡ bothWrittenOf s ir ccd) (rest : B) where
-  pub both-numbered : (w ≡ bothWrittenOf s ir ccd) × ((writtenNumber w ≡ bothNumber s ir ccd) × ((writtenPlace w ≡ 0) × B))
+module _ (s : Head) (ir ccd : List ℕ) (w : Written) (is : w ≡ bothWrittenOf s ir ccd) where
+  pub both-numbered : (ir′ irblock ccd′ ccdblock : List ℕ) → ir′ ≡ bufferAfter w irblock ir → ccd′ ≡ bufferAfter w ccdblock ccd
+      → (w ≡ bothWrittenOf s ir ccd)
+      × ((writtenNumber w ≡ bothNumber s ir ccd)
+      × ((writtenPlace w ≡ 0) × ((ir′ ≡ bufferAfter w irblock ir) × (ccd′ ≡ bufferAfter w ccdblock ccd))))
   unfolding bothWrittenOf bothNumber writtenOf writtenIf writeNumber
-  both-numbered = (is, (rw is (simp (chosen writtenNumber)), (rw is (simp (chosen writtenPlace, same)), rest)))
+  both-numbered ir′ irblock ccd′ ccdblock first second =
+      (is, (rw is (simp (chosen writtenNumber)), (rw is (simp (chosen writtenPlace, same)), (first, second))))
 
 module _ (s : Head) (ir ccd : List ℕ) where
   due-number : (d : Due) → dueWrittenNumber (dueWrittenOf s d ir ccd) ≡ dueNumber s d ir ccd
@@ -50,9 +58,14 @@ module _ (s : Head) (ir ccd : List ℕ) where
   due-place (due.Blocks ended flags) = simp (chosen writtenPlace, same)
   due-place due.Refused = refl
 
-module _ {B : Type 0} (s : Head) (d : Due) (ir ccd : List ℕ) (r : DueWritten) (is : r ≡ dueWrittenOf s d ir ccd) (rest : B) where
-  pub due-numbered : (r ≡ dueWrittenOf s d ir ccd) × ((dueWrittenNumber r ≡ dueNumber s d ir ccd) × ((dueWrittenPlace r ≡ 0) × B))
-  due-numbered = (is, (rw is (due-number s ir ccd d), (rw is (due-place s ir ccd d), rest)))
+module _ (s : Head) (d : Due) (ir ccd : List ℕ) (r : DueWritten) (is : r ≡ dueWrittenOf s d ir ccd) where
+  pub due-numbered : (ir′ irreadings : List ℕ) (irbits : IrBits) (ccd′ ccdreadings : List ℕ) (ccdbits : CcdBits)
+      → ir′ ≡ irDueAfter s d irreadings irbits ir ccd → ccd′ ≡ ccdDueAfter s d ccdreadings ccdbits ir ccd
+      → (r ≡ dueWrittenOf s d ir ccd)
+      × ((dueWrittenNumber r ≡ dueNumber s d ir ccd)
+      × ((dueWrittenPlace r ≡ 0) × ((ir′ ≡ irDueAfter s d irreadings irbits ir ccd) × (ccd′ ≡ ccdDueAfter s d ccdreadings ccdbits ir ccd))))
+  due-numbered ir′ irreadings irbits ccd′ ccdreadings ccdbits first second =
+      (is, (rw is (due-number s ir ccd d), (rw is (due-place s ir ccd d), (first, second))))
 
 -- what a reader gives
 module _ (ws : List ℕ) (r : IrRead) (is : r ≡ irReadOf ws) where

@@ -3,7 +3,7 @@
 use Prim.Native.Nat.{ℕ}
 use mathlib.Core.Bool.{Bool}
 use mathlib.Core.List.{List}
-use mathlib.Core.Path.{_≡_, ap, _∙_}
+use mathlib.Core.Path.{_≡_, ap}
 use Rattle.head.specs.declared.state.Head.{Head}
 use Rattle.head.specs.declared.state.Flags.{Flags}
 use Rattle.head.specs.declared.state.Task.{Task}
@@ -39,7 +39,9 @@ enum-told-2 c = search needs
 
 returns : tie.Need-returns
 unfolding dueWrittenOf irDueAfter ccdDueAfter
-returns c = due-numbered _ _ _ _ _ (rw (c .enum-told .given .1)) (rw (c .enum-told .given .1), rw (c .enum-told .given .1))
+returns c =
+    let told = c .enum-told .given .1 in
+    due-numbered _ _ _ _ _ (rw told) _ _ _ _ _ _ (rw told) (rw told)
 
 same-length : tie.Need-same-length
 same-length c = search needs
@@ -47,33 +49,32 @@ same-length c = search needs
 same-length-2 : tie.Need-same-length-2
 same-length-2 c = search needs
 
-module _ (s : Head) (d : Due) (ended : Task) (flags : Flags) (acquired : Bool) (w : Written) (ir ccd : List ℕ) (told : d ≡ due.Blocks ended flags) (first : acquired ≡ acquisition ended) (both : w ≡ bothWrittenOf s ir ccd) where
+-- where blocks are due, what writing both answers and leaves
+module _ (s : Head) (d : Due) (ended : Task) (flags : Flags) (acquired : Bool) (w : Written) (ir ccd : List ℕ)
+    (told : d ≡ due.Blocks ended flags) (first : acquired ≡ acquisition ended) (both : w ≡ bothWrittenOf s ir ccd) where
   blocks-due : Blocks w ≡ dueWrittenOf s d ir ccd
   unfolding dueWrittenOf
   blocks-due = rw told (ap Blocks both)
 
-  ir-due : (after readings : List ℕ) (bits : IrBits) → after ≡ bufferAfter w (irBlockOf s flags acquired readings bits) ir → after ≡ irDueAfter s d readings bits ir ccd
+  ir-due : (after readings : List ℕ) (bits : IrBits) → after ≡ bufferAfter w (irBlockOf s flags acquired readings bits) ir
+      → after ≡ irDueAfter s d readings bits ir ccd
   unfolding irDueAfter
-  ir-due after readings bits h = rw told (h ∙ rw (both, first))
+  ir-due after readings bits left = rw told (rw (both, first) at left)
 
-  ccd-due : (after readings : List ℕ) (bits : CcdBits) → after ≡ bufferAfter w (ccdBlockOf s flags acquired readings bits) ccd → after ≡ ccdDueAfter s d readings bits ir ccd
+  ccd-due : (after readings : List ℕ) (bits : CcdBits) → after ≡ bufferAfter w (ccdBlockOf s flags acquired readings bits) ccd
+      → after ≡ ccdDueAfter s d readings bits ir ccd
   unfolding ccdDueAfter
-  ccd-due after readings bits h = rw told (h ∙ rw (both, first))
+  ccd-due after readings bits left = rw told (rw (both, first) at left)
 
 returns-2 : tie.Need-returns-2
 returns-2 c =
-    let at-both = c .before .before .before .before in
-    let at-acquisition = at-both .before .before .before in
-    let told = at-acquisition .before .before .due .given .1 in
-    let first = at-acquisition .is-acquisition .ensures in
-    let wrote = at-both .write-both .ensures in
-    let left = wrote .1 .1 .1 in
-    due-numbered _ _ _ _ _ (blocks-due _ _ _ _ _ _ _ _ told first (wrote .0))
-    (ir-due _ _ _ _ _ _ _ _ told first (wrote .0) _ _ _ (left .0), ccd-due _ _ _ _ _ _ _ _ told first (wrote .0) _ _ _ (left .1))
+    due-numbered _ _ _ _ _ (search (needs, blocks-due)) _ _ _ _ _ _ (search (needs, ir-due)) (search (needs, ccd-due))
 
 returns-3 : tie.Need-returns-3
 unfolding dueWrittenOf irDueAfter ccdDueAfter
-returns-3 c = due-numbered _ _ _ _ _ (rw (c .enum-told2 .given .1)) (rw (c .enum-told2 .given .1), rw (c .enum-told2 .given .1))
+returns-3 c =
+    let told = c .enum-told2 .given .1 in
+    due-numbered _ _ _ _ _ (rw told) _ _ _ _ _ _ (rw told) (rw told)
 
 pub write-due-spec : {M : Type 1} → statement M
 write-due-spec =

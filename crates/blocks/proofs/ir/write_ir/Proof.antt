@@ -1,10 +1,9 @@
 -- `blocks::ir::write_ir` meets its contract.
 -- Assumes nothing.
-use mathlib.Core.Path.{_∙_}
 use Rattle.blocks.specs.Written.{writtenOf}
-use Rattle.blocks.specs.Ir.{irBlockOf}
+use Rattle.blocks.specs.Ir.{irStatus, irBlockOf}
 use Rattle.blocks.proofs.Numbered.{write-numbered}
-use Rattle.blocks.proofs.Writing.{written-by}
+use Rattle.blocks.proofs.Writing.{written-by, written-left}
 use borrow.Author.Needs.{needs}
 use Rattle.blocks.proofs.ir.write_ir.Statement.{statement}
 use Rattle.blocks.proofs.ir.write_ir.Tie as tie
@@ -33,10 +32,8 @@ same-length c = search needs
 returns : tie.Need-returns
 unfolding irBlockOf writtenOf
 returns c =
-    let at-block = c .before .before in
-    let at-status = at-block .before .before .before .before .before in
-    write-numbered _ _ _ _ (search (needs, written-by 14 6, slice-aggregate-write-block))
-    (at-block .write-block .ensures .1 ∙ rw (at-status .status .ensures, at-status .before .shown .ensures))
+    write-numbered _ _ _ _ (search (needs, written-by 14 6, slice-aggregate-write-block)) _ _
+    (search (needs, written-left irStatus))
 
 pub write-ir-spec : {M : Type 1} → statement M
 write-ir-spec =
