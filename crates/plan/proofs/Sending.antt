@@ -25,7 +25,7 @@ unfolding sineRegister
 sine-minus a h fits = rw (le-ltb a 32768 h) (mod-eq-of-lt (omega arith))
 
 -- a code that is none of those up to n
-others-not : (c n : ℕ) → Apart c n → (k : ℕ) → 1 ≤ k → k ≤ n → eqb c k ≡ false
+pub others-not : (c n : ℕ) → Apart c n → (k : ℕ) → 1 ≤ k → k ≤ n → eqb c k ≡ false
 others-not c zero h k low high = absurd (omega arith)
 others-not c (suc n) h k low high = go (others-not c n (h .0) k low) (ℕ-discrete k (suc n))
   where

@@ -19,135 +19,54 @@ use head::state::Settings;
 ghost use mathlib.Core.Path.{_≡_};
 ghost use mathlib.Core.Bool.{true};
 ghost use Prim.Native.Nat.{_≤_};
-ghost use Rattle.plan.specs.Codes.{vdetcom, ccdTimes, windowMode, detector, ccdLamp, annealing, mirror, fit};
+ghost use Rattle.words.specs.Fields.{switched};
+ghost use Rattle.plan.specs.Codes.{ccdLamp, annealing, fit};
 ghost use Rattle.plan.specs.Reading.{settingsBy};
 
-// The detector's voltages, and the times of the two channels.
-fn times_by(mut settings: Settings, order: Order) -> Settings
-    requires { ⌜ vdetcom ≤ order .code ⌝ ∗ ⌜ order .code ≤ ccdTimes ⌝ }
-    ensures { λ r. ⌜ r ≡ settingsBy settings order ⌝ }
-{
-    let code = order.code;
-    let a = order.a;
-    let b = order.b;
-    match code {
-        VDETCOM => {
-            settings.vdetcom = a;
-            settings
-        }
-        VDETADJ => {
-            settings.vdetadj = a;
-            settings
-        }
-        IR_TIMES => {
-            settings.irdelay = a;
-            settings.irexpo = b;
-            settings
-        }
-        _ => {
-            settings.ccddelay = a;
-            settings.ccdexpo = b;
-            settings
-        }
-    }
-}
-
-// The window mode, the CCD's window and the detector.
-fn window_by(mut settings: Settings, order: Order) -> Settings
-    requires { ⌜ windowMode ≤ order .code ⌝ ∗ ⌜ order .code ≤ detector ⌝ }
-    ensures { λ r. ⌜ r ≡ settingsBy settings order ⌝ }
-{
-    let code = order.code;
-    let a = order.a;
-    let b = order.b;
-    let c = order.c;
-    let d = order.d;
-    match code {
-        WINDOW_MODE => {
-            settings.mode = a;
-            settings
-        }
-        WINDOW => {
-            settings.x1 = a;
-            settings.y1 = b;
-            settings.x2 = c;
-            settings.y2 = d;
-            settings
-        }
-        _ => {
-            settings.detector = a;
-            settings
-        }
-    }
-}
-
-// The lamps, the shutter and the annealing: bit 0 is on, the bits above are the current or limit.
-fn currents_by(mut settings: Settings, order: Order) -> Settings
+// What a lamp, the shutter or the annealing is set to: bit 0 is on, the bits above are the current or limit.
+fn switched(order: Order) -> u16
     requires { ⌜ ccdLamp ≤ order .code ⌝ ∗ ⌜ order .code ≤ annealing ⌝ ∗ ⌜ fit order ≡ true ⌝ }
-    ensures { λ r. ⌜ r ≡ settingsBy settings order ⌝ }
+    ensures { λ r. ⌜ r ≡ switched (order .a) (order .b) ⌝ }
 {
-    let code = order.code;
-    let switched = order.a + 2 * order.b;
-    match code {
-        CCD_LAMP => {
-            settings.ccdlamp = switched;
-            settings
-        }
-        IR_LAMP => {
-            settings.irlamp = switched;
-            settings
-        }
-        SHUTTER => {
-            settings.shutter = switched;
-            settings
-        }
-        _ => {
-            settings.annealing = switched;
-            settings
-        }
-    }
+    order.a + 2 * order.b
 }
 
-// The mirror, its motor and the cover; the other orders set nothing.
-fn motions_by(mut settings: Settings, order: Order) -> Settings
-    requires { ⌜ mirror ≤ order .code ⌝ ∗ ⌜ fit order ≡ true ⌝ }
-    ensures { λ r. ⌜ r ≡ settingsBy settings order ⌝ }
-{
-    let code = order.code;
-    let a = order.a;
-    let b = order.b;
-    match code {
-        MIRROR => {
-            settings.sine = sine_register(a);
-            settings.cosine = b;
-            settings
-        }
-        MOTOR => {
-            settings.switch = 1 - a;
-            settings
-        }
-        COVER => {
-            settings.direction = a;
-            settings
-        }
-        _ => settings,
-    }
-}
-
-// The settings after an order that fits.
-pub(crate) fn settings_by(settings: Settings, order: Order) -> Settings
+// The settings after an order that fits; expose, housekeeping and wait set nothing.
+pub(crate) fn settings_by(mut settings: Settings, order: Order) -> Settings
     requires { ⌜ fit order ≡ true ⌝ }
     ensures { λ r. ⌜ r ≡ settingsBy settings order ⌝ }
 {
     let code = order.code;
-    if code <= CCD_TIMES {
-        return times_by(settings, order);
+    match code {
+        VDETCOM => settings.vdetcom = order.a,
+        VDETADJ => settings.vdetadj = order.a,
+        IR_TIMES => {
+            settings.irdelay = order.a;
+            settings.irexpo = order.b;
+        }
+        CCD_TIMES => {
+            settings.ccddelay = order.a;
+            settings.ccdexpo = order.b;
+        }
+        WINDOW_MODE => settings.mode = order.a,
+        WINDOW => {
+            settings.x1 = order.a;
+            settings.y1 = order.b;
+            settings.x2 = order.c;
+            settings.y2 = order.d;
+        }
+        DETECTOR => settings.detector = order.a,
+        CCD_LAMP => settings.ccdlamp = switched(order),
+        IR_LAMP => settings.irlamp = switched(order),
+        SHUTTER => settings.shutter = switched(order),
+        ANNEALING => settings.annealing = switched(order),
+        MIRROR => {
+            settings.sine = sine_register(order.a);
+            settings.cosine = order.b;
+        }
+        MOTOR => settings.switch = 1 - order.a,
+        COVER => settings.direction = order.a,
+        _ => {}
     }
-    if code <= DETECTOR {
-        return window_by(settings, order);
-    }
-    if code <= ANNEALING {
-        return currents_by(settings, order);
-    }
-    motions_by(settings, order)
+    settings
 }

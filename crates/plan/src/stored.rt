@@ -8,7 +8,7 @@ ghost use mathlib.Core.Path.{_≡_};
 ghost use Prim.Native.Nat.{_+_, _*_, _≤_, _<_, _^_};
 ghost use lib.ListN.{length};
 ghost use Rattle.plan.specs.Codes.{countOf, widthOf};
-ghost use Rattle.plan.specs.Stored.{byteAt, pairAt, reach, valueAt, fieldsAt, faultAt, headerFault, ordersFrom, mostOrders, planOf, planNumber, planPlace};
+ghost use Rattle.plan.specs.Stored.{byteAt, pairAt, reach, valueAt, fieldsAt, headerFault, ordersFrom, mostOrders, planOf, planNumber, planPlace};
 ghost use Rattle.plan.specs.Judged.{faulty, checkedAt, judgedOf, judgedNumber, judgedPlace};
 
 // The version of the stored form.
@@ -194,13 +194,6 @@ pub fn checked_at(plan: &[u8], at: usize) -> Checked
     }
 }
 
-// What is wrong with the order at a place: a number of document 01's refusal table, 0 for nothing.
-fn fault_at(plan: &[u8], at: usize) -> u8
-    ensures { λ r. ⌜ r ≡ faultAt (now (plan .entry)) at ⌝ }
-{
-    checked_at(plan, at).fault
-}
-
 // The orders, from the first on.
 fn judge_orders(plan: &[u8]) -> Judged
     ensures { λ r. ⌜ r ≡ judgedOf (ordersFrom mostOrders (now (plan .entry)) 3) ⌝ }
@@ -208,7 +201,7 @@ fn judge_orders(plan: &[u8]) -> Judged
     let mut at: usize = HEADER;
     let mut count: usize = 0;
     while at < plan.len() {
-        let number = fault_at(plan, at);
+        let number = checked_at(plan, at).fault;
         // Where the bytes that the length byte counts begin.
         let counted = at + 1;
         if MOST_ORDERS <= count {

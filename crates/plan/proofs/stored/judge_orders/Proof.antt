@@ -7,6 +7,7 @@ use borrow.Author.Needs.{needs}
 use lib.ListN.{length}
 use Rattle.plan.specs.Stored.{ordersFrom, mostOrders}
 use Rattle.plan.specs.Judged.{judgedOf}
+use Rattle.plan.proofs.Bytes.{checked-fault}
 use Rattle.plan.proofs.Judging.{counted, counted-none, judged-end, judged-many, judged-fault, judged-next}
 use Rattle.plan.proofs.stored.judge_orders.Statement.{statement}
 use Rattle.plan.proofs.stored.judge_orders.Tie as tie
@@ -21,8 +22,8 @@ abbrev μ-loop : tie.MeasureT-loop
 loop-holds : tie.Need-loop-holds Inv-loop μ-loop
 loop-holds c = search (needs, counted-none)
 
-fault-at-requires : tie.Need-fault-at-requires Inv-loop μ-loop
-fault-at-requires c κs = search needs
+checked-at-requires : tie.Need-checked-at-requires Inv-loop μ-loop
+checked-at-requires c κs = search needs
 
 add-counted : tie.Need-add-counted Inv-loop μ-loop
 add-counted c = search needs
@@ -31,7 +32,7 @@ returns : tie.Need-returns Inv-loop μ-loop
 returns c = search (needs, judged-many)
 
 returns-2 : tie.Need-returns-2 Inv-loop μ-loop
-returns-2 c = search (needs, judged-fault)
+returns-2 c = search (needs, judged-fault, checked-fault)
 
 byte-at-requires : tie.Need-byte-at-requires Inv-loop μ-loop
 byte-at-requires c κs = search needs
@@ -49,7 +50,7 @@ loop-less : tie.Need-loop-less Inv-loop μ-loop
 loop-less c = search needs
 
 loop-again : tie.Need-loop-again Inv-loop μ-loop
-loop-again c = search (needs, judged-next)
+loop-again c = search (needs, judged-next, checked-fault)
 
 returns-3 : tie.Need-returns-3 Inv-loop μ-loop
 returns-3 c = search (needs, judged-end)
@@ -61,7 +62,7 @@ judge-orders-spec =
     Inv-loop
     μ-loop
     loop-holds
-    fault-at-requires
+    checked-at-requires
     add-counted
     returns
     returns-2
