@@ -9,7 +9,7 @@ use native.Mathlib.Nat.{add-zero, add-suc, suc-add}
 use native.Mathlib.Decide.{ℕ-discrete}
 use native.Mathlib.Omega.{arith}
 use borrow.Author.Tests.{leb-true, leb-false, eqb-true, eqb-false, le-leb, lt-leb, eq-eqb, ne-eqb}
-use lib.Dec.{leb, eqb, leb·zero}
+use lib.Dec.{T, leb, eqb, leb·zero, leb→le}
 use Rattle.words.specs.Kinds as kind
 use Rattle.head.specs.Flags.{oneOf, forVis, mirrorWord, forBoth, outOfRangeFlags, wordVis, scanned, wordBoth, wordIr}
 use Rattle.head.specs.Word.{outOfTurn}
@@ -100,11 +100,13 @@ module _ (k : ℕ) (f : Flags) where
       unfolding outOfRangeFlags
       way-ir h = rw (← vis-by k, vis, ← scan-by k, scan, ← both-by k, lt-leb k kind.stop h)
 
--- the turn of a mirror word
+-- the turn of a mirror word; j is the last kind that the code lets pass
 module _ (count k : ℕ) where
-  pub never-turn : k ≤ kind.sinM → false ≡ outOfTurn count k
+  pub never-turn : (j : ℕ) → T (leb j kind.sinM) → k ≤ j → false ≡ outOfTurn count k
   unfolding outOfTurn
-  never-turn h = rw (ne-eqb k kind.sinL (λ e. omega arith), ne-eqb k kind.cosM (λ e. omega arith), ne-eqb k kind.cosL (λ e. omega arith))
+  never-turn j t h =
+      let l = leb→le j kind.sinM t in
+      rw (ne-eqb k kind.sinL (λ e. omega arith), ne-eqb k kind.cosM (λ e. omega arith), ne-eqb k kind.cosL (λ e. omega arith))
 
   pub past-turn : kind.cosL < k → false ≡ outOfTurn count k
   unfolding outOfTurn

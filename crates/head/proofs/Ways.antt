@@ -61,9 +61,9 @@ module _ (s h : Head) (f : Flags) where
 
 -- `no_word`: d is what was found
 module _ (s : Head) (d : Decoded) where
-  pub way-first : (r : Answered) → 0 < s .work .busy → r ≡ waiting s busy → r ≡ byFinding s d
+  pub way-first : (r : Answered) (n : ℕ) → n < s .work .busy → r ≡ waiting s busy → r ≡ byFinding s d
   unfolding waiting byFinding
-  way-first r h is = rw (lt-ltb 0 (s .work .busy) h) is
+  way-first r n h is = rw (lt-ltb 0 (s .work .busy) (omega arith)) is
 
   module _ (idle : s .work .busy ≤ 0) where
     pub way-range : (r : Answered) (k : ℕ) → d ≡ OutOfRange k → r ≡ onDecoded s (OutOfRange k) → r ≡ byFinding s d

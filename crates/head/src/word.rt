@@ -117,15 +117,15 @@ impl Head {
         ensures { λ r. ⌜ r ≡ waiting self phase ⌝ }
     {
         let flags = self.flags;
-        let begun = self.begun;
+        let kept = self.begun;
         if phase == BUSY {
             return Answered {
-                head: self.marked(flags.time_both(), begun),
+                head: self.marked(flags.time_both(), kept),
                 outcome: Outcome::Ignored(Cause::Busy),
             };
         }
         Answered {
-            head: self.marked(flags.time_ir(), begun),
+            head: self.marked(flags.time_ir(), kept),
             outcome: Outcome::Ignored(Cause::CoverMoving),
         }
     }
