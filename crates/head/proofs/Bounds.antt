@@ -11,7 +11,7 @@ use Rattle.words.specs.Kinds as kind
 use Rattle.words.specs.Fields.{steps}
 use Rattle.words.specs.Kinds.{rows, least, greatest, allowed, mostSteps}
 use Rattle.words.proofs.Tests.{and-left, and-right}
-use Rattle.head.specs.Limits.{hkTicks, mirrorTicks, coverStepTicks, longest, lengthOf, readoutOf}
+use Rattle.head.specs.Limits.{hkTicks, mirrorTicks, coverStepTicks, longest, lengthBy, lengthOf, readoutOf}
 use Rattle.head.specs.Range.{allPass, registerTests, latchTests, motionTests, begunTests, place, workInRange, inRange}
 use Rattle.head.specs.declared.state.Settings.{Settings}
 use Rattle.head.specs.declared.state.Latches.{Latches}
@@ -258,3 +258,12 @@ module _ (r : Settings) where
   pub length-bounds : RegisterBounds r → (156 ≤ lengthOf r) × (lengthOf r ≤ 4238)
   unfolding lengthOf
   length-bounds h = let b = readout-bounds in omega arith
+
+-- both ends are reached: all times at their least with the reduced window, and all at their largest
+pub shortest-reached : lengthBy 1 (least kind.irDelay) (least kind.irExpo) (least kind.ccdDelay) (least kind.ccdExpo) ≡ 156
+unfolding lengthBy readoutOf least rows
+shortest-reached = refl
+
+pub longest-reached : lengthBy 0 (greatest kind.irDelay) (greatest kind.irExpo) (greatest kind.ccdDelay) (greatest kind.ccdExpo) ≡ longest
+unfolding lengthBy readoutOf greatest rows
+longest-reached = refl
