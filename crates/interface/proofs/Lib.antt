@@ -1,7 +1,5 @@
 pub mod Storing
 pub mod RoundTrip
-pub mod InPlace
-pub mod Stepped
 pub mod Numbers
 pub mod Ways
 pub mod Translation

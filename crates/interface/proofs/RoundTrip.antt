@@ -1,4 +1,5 @@
--- A state's numbers lead back to the state, and the state of a well formed array to the array.
+-- A state's numbers lead back to the state, and the state of a well formed array to the array: so a state that is refused stays as it was
+-- given.
 -- Assumes nothing.
 use mathlib.Core.Path.{_≡_, refl, sym}
 use mathlib.Core.Bool.{Bool, true, false, _&&_}

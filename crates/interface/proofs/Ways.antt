@@ -1,6 +1,6 @@
 -- The ways through the exported functions over a state: l is the array as it was given, r what is answered, after the array that is left.
 -- Assumes nothing.
-use mathlib.Core.Path.{_≡_, refl, sym, _∙_}
+use mathlib.Core.Path.{_≡_, sym, _∙_}
 use mathlib.Core.Bool.{Bool, true, false, not}
 use mathlib.Core.List.{List}
 use Prim.Native.Nat.{ℕ}
@@ -9,14 +9,15 @@ use lib.ListN.{length}
 use Rattle.head.specs.State.{powerOn}
 use Rattle.head.specs.Range.{inRange}
 use Rattle.head.specs.Word.{answerOf}
-use Rattle.head.specs.Tick.{tickOf, passed}
+use Rattle.head.specs.Tick.{tickOf}
 use Rattle.head.specs.Numbers.{causeNumber, outcomeNumber}
 use Rattle.head.specs.declared.state.Head.{Head}
 use Rattle.head.specs.declared.word.Cause.the-variants.{State}
+use Rattle.head.specs.declared.word.Answered.{Answered}
+use Rattle.head.specs.declared.tick.Ticked.{Ticked}
 use Rattle.interface.specs.State.{places, numbersOf, stateOf, wellFormed, valid}
 use Rattle.interface.specs.Stepping.{powerOnAnswer, powerOnState, rangeAnswer, wordAnswer, wordState, dueAnswer, tickAnswer, tickState}
-use Rattle.interface.proofs.RoundTrip.{well-formed-length, numbers-state}
-use Rattle.interface.proofs.InPlace.{valid-formed, valid-long, valid-ranged}
+use Rattle.interface.proofs.RoundTrip.{well-formed-length}
 
 module _ (l : List ℕ) where
   module _ (short : length l ≡ places → ⊥) where
@@ -37,85 +38,65 @@ module _ (l : List ℕ) where
     unfolding powerOnState
     power-on-state after h on e = rw (eq-eqb (length l) places long, ← on) e
 
--- where the state must be loaded: b is what `well_formed` answered
-pub long : (l : List ℕ) (b : Bool) → b ≡ wellFormed l → not b ≡ false → length l ≡ places
-long l b is good = well-formed-length l (sym is ∙ not-false b good)
+-- i is what `well_formed` answered
+module _ (l : List ℕ) (i : Bool) (is : i ≡ wellFormed l) where
+  module _ (bad : not i ≡ true) where
+    ill : wellFormed l ≡ false
+    ill = sym is ∙ not-true i bad
 
--- v is what `in_range` answered
-module _ (l : List ℕ) (v : Bool) (is : v ≡ valid l) where
-  pub range-yes : v ≡ true → 0 ≡ rangeAnswer l
-  unfolding rangeAnswer
-  range-yes e = rw (← is, e)
+    module _ (r : ℕ) (own : r ≡ causeNumber State) where
+      pub range-ill : r ≡ rangeAnswer l
+      unfolding rangeAnswer valid
+      range-ill = rw ill own
 
-  pub range-no : v ≡ false → (r : ℕ) → r ≡ causeNumber State → r ≡ rangeAnswer l
-  unfolding rangeAnswer
-  range-no e r own = rw (← is, e) own
-
-  module _ (good : not v ≡ false) where
-    pub held : valid l ≡ true
-    held = sym is ∙ not-false v good
-
-    pub held-long : length l ≡ places
-    held-long = valid-long l held
-
-    well : wellFormed l ≡ true
-    well = valid-formed l held
-
-    module _ (w : ℕ) where
-      pub word-answer : (r : ℕ) → r ≡ outcomeNumber (answerOf (stateOf l) w .outcome) → r ≡ wordAnswer l w
+      pub word-ill : (w : ℕ) → r ≡ wordAnswer l w
       unfolding wordAnswer
-      word-answer r e = rw well e
+      word-ill w = rw ill own
 
-      pub word-state : (after : List ℕ) → after ≡ numbersOf (answerOf (stateOf l) w .head) → after ≡ wordState l w
-      unfolding wordState
-      word-state after e = rw well e
+      pub tick-ill : r ≡ tickAnswer l
+      unfolding tickAnswer
+      tick-ill = rw ill own
 
-    pub tick-answer : (r : ℕ) → r ≡ dueAnswer (passed (stateOf l) .due) → r ≡ tickAnswer l
-    unfolding tickAnswer tickOf
-    tick-answer r e = rw (well, valid-ranged l held) e
-
-    pub tick-state : (after : List ℕ) → after ≡ numbersOf (passed (stateOf l) .head) → after ≡ tickState l
-    unfolding tickState tickOf
-    tick-state after e = rw (well, valid-ranged l held) e
-
-  -- refused: the array is not well formed, or its state is out of range
-  module _ (bad : not v ≡ true) where
-    not-held : valid l ≡ false
-    not-held = sym is ∙ not-true v bad
-
-    out : wellFormed l ≡ true → inRange (stateOf l) ≡ false
-    unfolding valid
-    out p = rw p at not-held
-
-    module _ (w : ℕ) where
-      pub word-refused : (r : ℕ) → r ≡ causeNumber State → r ≡ wordAnswer l w
-      unfolding wordAnswer answerOf outcomeNumber
-      word-refused r is = go (wellFormed l) refl
-        where
-          go : (f : Bool) → wellFormed l ≡ f → r ≡ wordAnswer l w
-          go false p = rw p is
-          go true p = rw (p, out p) is
-
-      pub word-left : l ≡ wordState l w
-      unfolding wordState answerOf
-      word-left = go (wellFormed l) refl
-        where
-          go : (f : Bool) → wellFormed l ≡ f → l ≡ wordState l w
-          go false p = rw p
-          go true p = rw (p, out p) (sym (numbers-state l p))
-
-    pub tick-refused : (r : ℕ) → r ≡ causeNumber State → r ≡ tickAnswer l
-    unfolding tickAnswer tickOf dueAnswer
-    tick-refused r is = go (wellFormed l) refl
-      where
-        go : (f : Bool) → wellFormed l ≡ f → r ≡ tickAnswer l
-        go false p = rw p is
-        go true p = rw (p, out p) is
+    pub word-left : (w : ℕ) → l ≡ wordState l w
+    unfolding wordState
+    word-left w = rw ill
 
     pub tick-left : l ≡ tickState l
-    unfolding tickState tickOf
-    tick-left = go (wellFormed l) refl
-      where
-        go : (f : Bool) → wellFormed l ≡ f → l ≡ tickState l
-        go false p = rw p
-        go true p = rw (p, out p) (sym (numbers-state l p))
+    unfolding tickState
+    tick-left = rw ill
+
+  module _ (good : not i ≡ false) where
+    well : wellFormed l ≡ true
+    well = sym is ∙ not-false i good
+
+    pub long : length l ≡ places
+    long = well-formed-length l well
+
+    -- h is the state that was loaded
+    module _ (h : Head) (loaded : h ≡ stateOf l) where
+      module _ (v : Bool) (judged : v ≡ inRange h) where
+        pub range-yes : v ≡ true → 0 ≡ rangeAnswer l
+        unfolding rangeAnswer valid
+        range-yes e = rw (well, ← loaded, ← judged, e)
+
+        pub range-no : v ≡ false → (r : ℕ) → r ≡ causeNumber State → r ≡ rangeAnswer l
+        unfolding rangeAnswer valid
+        range-no e r own = rw (well, ← loaded, ← judged, e) own
+
+      module _ (w : ℕ) (a : Answered) (e : a ≡ answerOf h w) where
+        pub word-answer : (r : ℕ) → r ≡ outcomeNumber (a .outcome) → r ≡ wordAnswer l w
+        unfolding wordAnswer
+        word-answer r own = rw (well, ← loaded, ← e) own
+
+        pub word-state : (after : List ℕ) → after ≡ numbersOf (a .head) → after ≡ wordState l w
+        unfolding wordState
+        word-state after own = rw (well, ← loaded, ← e) own
+
+      module _ (t : Ticked) (e : t ≡ tickOf h) where
+        pub tick-answer : (r : ℕ) → r ≡ dueAnswer (t .due) → r ≡ tickAnswer l
+        unfolding tickAnswer
+        tick-answer r own = rw (well, ← loaded, ← e) own
+
+        pub tick-state : (after : List ℕ) → after ≡ numbersOf (t .head) → after ≡ tickState l
+        unfolding tickState
+        tick-state after own = rw (well, ← loaded, ← e) own

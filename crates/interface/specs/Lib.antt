@@ -1,6 +1,5 @@
 pub mod State
 pub mod Stepping
-pub mod InPlace
 pub mod Codec
 pub mod Plans
 pub mod Blocks

@@ -58,14 +58,19 @@ registerNumbers r l =
     ∷ l .vdetadj
     ∷ []
 
--- Places 22-26.
-abbrev pub flagNumbers : Flags → List ℕ
-flagNumbers f =
-    bitOf (f .irtime) ∷ bitOf (f .irword) ∷ bitOf (f .scan) ∷ bitOf (f .vistime) ∷ bitOf (f .visword) ∷ []
-
 -- Places 22-30: what a tick can change.
 abbrev pub activityNumbers : Flags → Work → Motion → List ℕ
-activityNumbers f w m = flagNumbers f ++ (taskNumber (w .task) ∷ w .busy ∷ m .mirror ∷ m .cover ∷ [])
+activityNumbers f w m =
+    bitOf (f .irtime)
+    ∷ bitOf (f .irword)
+    ∷ bitOf (f .scan)
+    ∷ bitOf (f .vistime)
+    ∷ bitOf (f .visword)
+    ∷ taskNumber (w .task)
+    ∷ w .busy
+    ∷ m .mirror
+    ∷ m .cover
+    ∷ []
 
 -- Places 31-34.
 abbrev pub begunNumbers : Begun → List ℕ

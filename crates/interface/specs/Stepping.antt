@@ -9,7 +9,7 @@ use lib.ListN.{length}
 use Rattle.head.specs.State.{powerOn}
 use Rattle.head.specs.Word.{answerOf}
 use Rattle.head.specs.Tick.{tickOf}
-use Rattle.head.specs.Numbers.{causeNumber, outcomeNumber, taskNumber}
+use Rattle.head.specs.Numbers.{causeNumber, outcomeNumber, dueNumber}
 use Rattle.head.specs.declared.state.Flags.{Flags}
 use Rattle.head.specs.declared.word.Cause.the-variants.{State}
 use Rattle.head.specs.declared.tick.Due.{Due}
@@ -46,11 +46,11 @@ flagBits f =
     + 8 * bitOf (f .vistime)
     + 16 * bitOf (f .visword)
 
--- Nothing due is 0. Blocks due: the task that ended in the low eight bits, the flags that they show from bit 8 on.
+-- The tick's number in bits 0-7; where blocks are due, the flags that they show from bit 8 on.
 unfoldable pub dueAnswer : Due → ℕ
-dueAnswer Nothing = 0
-dueAnswer (Blocks t f) = taskNumber t + 256 * flagBits f
-dueAnswer Refused = stateRefused
+dueAnswer Nothing = dueNumber Nothing
+dueAnswer (Blocks t f) = dueNumber (Blocks t f) + 256 * flagBits f
+dueAnswer Refused = dueNumber Refused
 
 unfoldable pub tickAnswer : List ℕ → ℕ
 tickAnswer l = cond (wellFormed l) (dueAnswer (tickOf (stateOf l) .due)) stateRefused

@@ -1,19 +1,19 @@
 // The numbers that the exported functions answer.
 use blocks::refusal::Refusal;
 use head::state::Flags;
-use head::state::Task;
+use head::tick::Due;
 use head::word::Cause;
 use schedule::Translated;
 use words::Decoded;
 use words::Encoded;
 ghost use mathlib.Core.Path.{_≡_};
 ghost use Prim.Native.Nat.{_+_, _*_, _≤_, _<_, _^_};
-ghost use Rattle.head.specs.Numbers.{causeNumber, taskNumber};
+ghost use Rattle.head.specs.Numbers.{causeNumber};
 ghost use Rattle.head.specs.declared.word.Cause.the-variants.{State};
 ghost use Rattle.blocks.specs.Numbers.{refusalPlace};
 ghost use Rattle.interface.specs.Blocks.{refusalAnswer, mostPlace};
 ghost use Rattle.interface.specs.State.{bitOf};
-ghost use Rattle.interface.specs.Stepping.{flagBits};
+ghost use Rattle.interface.specs.Stepping.{flagBits, dueAnswer};
 ghost use Rattle.interface.specs.Plans.{packed, Small, translatedAnswer};
 ghost use Rattle.interface.specs.Codec.{decodedAnswer, encodedAnswer};
 
@@ -43,10 +43,15 @@ fn flag_bits(flags: Flags) -> u32
         + 16 * wide_bit(flags.visword)
 }
 
-pub fn blocks_number(ended: Task, flags: Flags) -> u32
-    ensures { λ r. ⌜ r ≡ taskNumber ended + 256 * flagBits flags ⌝ }
+pub fn due_number(due: Due) -> u32
+    ensures { λ r. ⌜ r ≡ dueAnswer due ⌝ }
 {
-    ended.number() as u32 + 256 * flag_bits(flags)
+    let number = due.number() as u32;
+    match due {
+        Due::Nothing => number,
+        Due::Blocks { ended: _, flags } => number + 256 * flag_bits(flags),
+        Due::Refused => number,
+    }
 }
 
 pub fn decoded_number(found: Decoded) -> u32

@@ -1,10 +1,8 @@
 // The C interface of the library (include/shabgozim.h). A state of the head crosses it as an array of 35 16-bit numbers. Every
 // length is judged here, and none is trusted.
 pub mod answers;
-mod layout;
 pub mod readings;
 pub mod state;
-pub mod stepping;
 
 use blocks::ccd::CCD_READINGS;
 use blocks::ccd::CCD_WORDS;
@@ -53,7 +51,10 @@ pub extern "C" fn shabgozim_power_on(state: &mut [u16]) -> u32
 pub extern "C" fn shabgozim_in_range(state: &[u16]) -> u32
     ensures { λ r. ⌜ r ≡ rangeAnswer (now (state .entry)) ⌝ }
 {
-    if stepping::in_range(state) {
+    if !state::well_formed(state) {
+        return answers::state_refused();
+    }
+    if state::load(state).in_range() {
         return 0;
     }
     answers::state_refused()
@@ -65,10 +66,13 @@ pub extern "C" fn shabgozim_word(state: &mut [u16], word: u16) -> u32
     ensures { λ r. ⌜ r ≡ wordAnswer (now (state .entry)) word ⌝ }
     ensures { λ _. ⌜ now (state .exit) ≡ wordState (now (state .entry)) word ⌝ }
 {
-    if !stepping::in_range(state) {
+    if !state::well_formed(state) {
         return answers::state_refused();
     }
-    stepping::word(state, word)
+    let answered = state::load(state).word(word);
+    let outcome = answered.outcome;
+    state::store(state, answered.head);
+    outcome.number()
 }
 
 // Lets a tick pass.
@@ -77,10 +81,13 @@ pub extern "C" fn shabgozim_tick(state: &mut [u16]) -> u32
     ensures { λ r. ⌜ r ≡ tickAnswer (now (state .entry)) ⌝ }
     ensures { λ _. ⌜ now (state .exit) ≡ tickState (now (state .entry)) ⌝ }
 {
-    if !stepping::in_range(state) {
+    if !state::well_formed(state) {
         return answers::state_refused();
     }
-    stepping::tick(state)
+    let ticked = state::load(state).tick();
+    let due = ticked.due;
+    state::store(state, ticked.head);
+    answers::due_number(due)
 }
 
 #[no_mangle]

@@ -12,7 +12,7 @@ ghost use mathlib.Core.List.{[], _∷_};
 ghost use Prim.Native.Nat.{_+_, _≤_};
 ghost use lib.ListN.{length};
 ghost use lib.Seq.{sets};
-ghost use Rattle.interface.specs.State.{places, bitOf, taskOf, settingsOf, flagsOf, stateOf, registerNumbers, flagNumbers, activityNumbers, begunNumbers, numbersOf, wellFormed};
+ghost use Rattle.interface.specs.State.{places, bitOf, taskOf, settingsOf, flagsOf, stateOf, registerNumbers, activityNumbers, begunNumbers, numbersOf, wellFormed};
 
 pub const PLACES: usize = 35;
 
@@ -22,7 +22,7 @@ pub fn bit(b: bool) -> u16
     if b { 1 } else { 0 }
 }
 
-pub(crate) fn task_of(n: u16) -> Task
+fn task_of(n: u16) -> Task
     ensures { λ r. ⌜ r ≡ taskOf n ⌝ }
 {
     match n {
@@ -70,7 +70,7 @@ fn settings_of(s: &[u16]) -> Settings
     }
 }
 
-pub(crate) fn flags_of(s: &[u16]) -> Flags
+fn flags_of(s: &[u16]) -> Flags
     requires { ⌜ length (now s) ≡ places ⌝ }
     ensures { λ r. ⌜ r ≡ flagsOf (now (s .entry)) ⌝ }
 {
@@ -137,18 +137,6 @@ fn register_numbers(settings: Settings, latches: Latches) -> [u16; 22]
         settings.direction,
         latches.vdetcom,
         latches.vdetadj,
-    ]
-}
-
-pub(crate) fn flag_numbers(flags: Flags) -> [u16; 5]
-    ensures { λ r. ⌜ r ≡ flagNumbers flags ⌝ }
-{
-    [
-        bit(flags.irtime),
-        bit(flags.irword),
-        bit(flags.scan),
-        bit(flags.vistime),
-        bit(flags.visword),
     ]
 }
 

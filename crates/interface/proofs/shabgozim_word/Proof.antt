@@ -1,12 +1,12 @@
 -- `interface::shabgozim_word` meets its contract.
 -- Assumes nothing.
-use Rattle.interface.proofs.Ways.{word-refused, word-left, held, held-long, word-answer, word-state}
+use Rattle.interface.proofs.Ways.{word-ill, word-left, long, word-answer, word-state}
 use borrow.Author.Needs.{needs}
 use Rattle.interface.proofs.shabgozim_word.Statement.{statement}
 use Rattle.interface.proofs.shabgozim_word.Tie as tie
 
-in-range-requires : tie.Need-in-range-requires
-in-range-requires c κs = search needs
+well-formed-requires : tie.Need-well-formed-requires
+well-formed-requires c κs = search needs
 
 state-refused-requires : tie.Need-state-refused-requires
 state-refused-requires c κs = search needs
@@ -15,10 +15,19 @@ same-length : tie.Need-same-length
 same-length c = search needs
 
 returns : tie.Need-returns
-returns c = search (needs, word-refused, word-left)
+returns c = search (needs, word-ill, word-left)
+
+load-requires : tie.Need-load-requires
+load-requires c κs = search (needs, long)
 
 word-requires : tie.Need-word-requires
-word-requires c κs = search (needs, held, held-long)
+word-requires c κs = search needs
+
+store-requires : tie.Need-store-requires
+store-requires c κs = search (needs, long)
+
+number-requires : tie.Need-number-requires
+number-requires c κs = search needs
 
 same-length-2 : tie.Need-same-length-2
 same-length-2 c = search needs
@@ -29,4 +38,14 @@ returns-2 c = search (needs, word-answer, word-state)
 pub shabgozim-word-spec : {M : Type 1} → statement M
 shabgozim-word-spec =
     tie.close
-    (tie.spec in-range-requires state-refused-requires same-length returns word-requires same-length-2 returns-2)
+    (tie.spec
+    well-formed-requires
+    state-refused-requires
+    same-length
+    returns
+    load-requires
+    word-requires
+    store-requires
+    number-requires
+    same-length-2
+    returns-2)
