@@ -10,3 +10,4 @@ pub mod Passing
 pub mod Findings
 pub mod Ways
 pub mod Numbered
+pub mod BusyTicks

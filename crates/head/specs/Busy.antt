@@ -1,8 +1,9 @@
--- Document 01, "The head": whether the head is busy, and for how many ticks yet where no word comes.
+-- Document 01, "The head": whether the head is busy, for how many ticks yet where no word comes, and whether anything moves. What asks
+-- for these asks here, and not how the state counts them.
 -- Assumes nothing.
 use Prim.Native.Nat.{ℕ}
-use mathlib.Core.Bool.{Bool}
-use lib.Dec.{ltb}
+use mathlib.Core.Bool.{Bool, _&&_}
+use lib.Dec.{eqb, ltb}
 use Rattle.head.specs.declared.state.Head.{Head}
 
 unfoldable pub busyTicks : Head → ℕ
@@ -11,3 +12,7 @@ busyTicks s = s .work .busy
 unfoldable pub isBusy : Head → Bool
 unfolding busyTicks
 isBusy s = ltb 0 (busyTicks s)
+
+-- Mirror and cover at rest: both motions are 0.
+unfoldable pub atRest : Head → Bool
+atRest s = eqb (s .motion .mirror) 0 && eqb (s .motion .cover) 0

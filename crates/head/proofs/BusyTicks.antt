@@ -1,0 +1,77 @@
+-- The head's busy ticks: none where it is idle, one less with each tick, an acquisition's length after START, three after HK. A head at
+-- rest stays so.
+-- Assumes nothing.
+use mathlib.Core.Path.{_≡_, refl, sym, _∙_}
+use mathlib.Core.Bool.{Bool, true, false, cond, _&&_}
+use Prim.Native.Nat.{ℕ, _-_, _≤_}
+use native.Mathlib.Nat.{zero-sub}
+use native.Mathlib.Omega.{arith}
+use borrow.Author.Tests.{le-leb, le-ltb, leb-true, leb-false, ltb-false, eqb-true, eq-eqb}
+use lib.Dec.{leb, ltb, eqb}
+use Rattle.words.specs.Codec.{decodeOf}
+use Rattle.words.specs.Kinds as kind
+use Rattle.words.proofs.Tests.{and-left, and-right}
+use Rattle.head.specs.Limits.{hkTicks, lengthOf}
+use Rattle.head.specs.Range.{inRange}
+use Rattle.head.specs.Busy.{busyTicks, isBusy, atRest}
+use Rattle.head.specs.Apply.{after, workAfter}
+use Rattle.head.specs.Word.{onDecoded, answerOf}
+use Rattle.head.specs.Tick.{passed, tickOf, ticksOf}
+use Rattle.head.specs.Ticks.{elapsed, workLeft}
+use Rattle.head.specs.declared.state.Work.{Work}
+use Rattle.head.specs.declared.state.Head.{Head}
+use Rattle.head.specs.declared.state.Task.the-variants.{Idle, Acquisition, Housekeeping}
+use Rattle.head.specs.declared.tick.Due.the-variants.{Blocks}
+use Rattle.head.proofs.Ticks.{ticks-elapsed}
+
+module _ (s : Head) where
+  pub idle-none : isBusy s ≡ false → busyTicks s ≡ 0
+  unfolding isBusy busyTicks
+  idle-none e = let z = ltb-false 0 (s .work .busy) e in omega arith
+
+  pub none-idle : busyTicks s ≡ 0 → isBusy s ≡ false
+  unfolding isBusy busyTicks
+  none-idle e = le-ltb 0 (s .work .busy) (omega arith)
+
+  -- an idle head looks at what the word is
+  pub idle-answer : (w : ℕ) → inRange s ≡ true → isBusy s ≡ false → answerOf s w ≡ onDecoded s (decodeOf w)
+  unfolding answerOf isBusy busyTicks
+  idle-answer w h e = rw (h, e)
+
+  -- what a word of kind k leaves
+  pub busy-after : (k b : ℕ)
+      → busyTicks (after s k b)
+      ≡ cond (eqb k kind.start) (lengthOf (s .settings)) (cond (eqb k kind.hk) hkTicks (cond (eqb k kind.stop) 0 (busyTicks s)))
+  unfolding after workAfter busyTicks
+  busy-after k b = go (eqb k kind.start) (eqb k kind.hk) (eqb k kind.stop)
+    where
+      go : (x y z : Bool)
+          → cond x (record { task = Acquisition; busy = lengthOf (s .settings) })
+          (cond y (record { task = Housekeeping; busy = hkTicks }) (cond z (record { task = Idle; busy = 0 }) (s .work))) .busy
+          ≡ cond x (lengthOf (s .settings)) (cond y hkTicks (cond z 0 (s .work .busy)))
+      go true y z = refl
+      go false true z = refl
+      go false false true = refl
+      go false false false = refl
+
+  module _ (h : inRange s ≡ true) where
+    pub busy-falls : (n : ℕ) → busyTicks (ticksOf n s) ≡ busyTicks s - n
+    unfolding busyTicks elapsed workLeft
+    busy-falls n = rw (ticks-elapsed n s h) (go (leb (s .work .busy) n) refl)
+      where
+        go : (x : Bool) → leb (s .work .busy) n ≡ x
+            → cond {A = Work} x (record { task = Idle; busy = 0 }) (record { task = s .work .task; busy = s .work .busy - n }) .busy ≡ s .work .busy - n
+        go true e = let l = leb-true (s .work .busy) n e in omega arith
+        go false e = refl
+
+    -- at the last busy tick both blocks are due
+    pub last-due : busyTicks s ≡ 1 → tickOf s .due ≡ Blocks (s .work .task) (s .flags)
+    unfolding busyTicks tickOf passed
+    last-due e = rw (h, eq-eqb (s .work .busy) 1 e)
+
+    pub rest-stays : (n : ℕ) → atRest s ≡ true → atRest (ticksOf n s) ≡ true
+    unfolding atRest elapsed
+    rest-stays n e =
+        let m = eqb-true (s .motion .mirror) 0 (and-left (eqb (s .motion .mirror) 0) (eqb (s .motion .cover) 0) e) in
+        let c = eqb-true (s .motion .cover) 0 (and-right (eqb (s .motion .mirror) 0) (eqb (s .motion .cover) 0) e) in
+        rw (ticks-elapsed n s h, m, c, zero-sub n)
