@@ -7,10 +7,13 @@ use Prim.Native.Nat.{ℕ}
 use borrow.Author.Tests.{eq-eqb}
 use lib.ListN.{length}
 use Rattle.head.specs.Range.{inRange}
-use Rattle.head.specs.Tick.{tickOf, passed}
+use Rattle.head.specs.Busy.{busyTicks}
+use Rattle.head.specs.Tick.{tickOf, ticksOf}
 use Rattle.head.specs.declared.state.Head.{Head}
 use Rattle.head.specs.declared.tick.Due.the-variants as due
+use Rattle.head.proofs.BusyTicks.{last-due}
 use Rattle.head.proofs.Keep.{tick-keeps}
+use Rattle.head.proofs.Ticks.{ticks-settings}
 use Rattle.blocks.specs.Written.{writtenOf, writtenIf, bufferAfter}
 use Rattle.blocks.specs.Ir.{irShown, irBlockOf}
 use Rattle.blocks.specs.Ccd.{ccdShown, ccdBlockOf}
@@ -20,14 +23,13 @@ use Rattle.blocks.specs.declared.ccd.CcdBits.{CcdBits}
 use Rattle.blocks.specs.declared.written.Written.the-variants.{Done}
 use Rattle.blocks.specs.declared.due.DueWritten.the-variants.{Blocks}
 
-module _ (s : Head) (h : inRange s ≡ true) (last : s .work .busy ≡ 1) where
+module _ (s : Head) (h : inRange s ≡ true) (last : busyTicks s ≡ 1) where
   ends : tickOf s .due ≡ due.Blocks (s .work .task) (s .flags)
-  unfolding tickOf passed
-  ends = rw (h, eq-eqb (s .work .busy) 1 last)
+  ends = last-due s h last
 
   kept : tickOf s .head .settings ≡ s .settings
-  unfolding tickOf passed
-  kept = rw (h, eq-eqb (s .work .busy) 1 last)
+  unfolding ticksOf
+  kept = ticks-settings 1 s h
 
   module _ (ir ccd : List ℕ) (ir-sized : length ir ≡ 20) (ccd-sized : length ccd ≡ 25) where
     both : bothWrittenOf (tickOf s .head) ir ccd ≡ Done

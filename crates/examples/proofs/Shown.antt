@@ -18,7 +18,8 @@ use Rattle.blocks.specs.Due.{acquisition, bothWrittenOf, irDueAfter, ccdDueAfte
 use Rattle.plan.specs.Codes.{countOf, widthOf, known, lengthOf as orderLength, within, related, fieldsFit}
 use Rattle.plan.specs.Stored.{fieldAt, orderAt, faultAt, headerFault, ordersFrom, planOf}
 use Rattle.plan.specs.Words.{sineRegister, wordsOf, itemsOf, itemsOfAll}
-use Rattle.schedule.specs.Earliest.{atRest, isTaken, ready, delayWithin, delayOf}
+use Rattle.head.specs.Busy.{busyTicks, isBusy, atRest}
+use Rattle.schedule.specs.Earliest.{isTaken, ready, delayWithin, delayOf}
 use Rattle.schedule.specs.Schedule.{readied, spanOf, sent, scheduleFrom}
 use Rattle.schedule.specs.Translate.{fit, scheduleOf, answerOfPlan, translateOf, translatedNumber}
 use Rattle.examples.specs.Starred.{hold, table, afterWords, answered, housekept, irHousekept, ccdHousekept}
@@ -31,7 +32,7 @@ unfolding hold table afterWords answered housekept irHousekept ccdHousekept
     irDueAfter ccdDueAfter bothWrittenOf writtenOf writtenIf bufferAfter acquisition irBlockOf irShown irStatus ccdBlockOf ccdShown
     ccdStatus lampShutterWord lampShutterFields irFlagWord irFlagFields sineWord sineIn sineFields visFlagWord visFlagFields composed
     valuesIn
-    translateOf translatedNumber answerOfPlan fit scheduleOf scheduleFrom readied spanOf sent ready atRest isTaken delayOf delayWithin
+    translateOf answerOfPlan fit scheduleOf scheduleFrom readied spanOf sent ready busyTicks isBusy atRest isTaken delayOf delayWithin
     planOf headerFault ordersFrom faultAt orderAt fieldAt countOf widthOf known orderLength fieldsFit within related
     itemsOfAll itemsOf wordsOf sineRegister
 starred = tt

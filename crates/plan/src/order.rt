@@ -33,7 +33,7 @@ impl Order {
     // A delay or an exposure has ten bits.
     pub const MOST_TIME: u16 = 1023;
 
-    pub const LEAST_CCD_DELAY: u16 = 5;
+    pub const LEAST_CCD_DELAY: u16 = words::kinds::LEAST_CCD_DELAY;
     // The window's corners, and X2 - X1.
     pub const MOST_X1: u16 = 148;
 

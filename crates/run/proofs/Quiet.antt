@@ -5,22 +5,18 @@ use mathlib.Core.Bool.{true, false, false≢true}
 use mathlib.Core.List.{List, [], _∷_, _++_}
 use mathlib.Core.Option.{Option, none, some}
 use Prim.Native.Nat.{ℕ, zero, suc, _+_}
-use native.Mathlib.Nat.{zero-sub, add-zero}
+use native.Mathlib.Nat.{add-zero}
 use native.Mathlib.Omega.{arith}
-use borrow.Author.Tests.{eqb-true}
-use lib.Dec.{eqb}
 use lib.ListN.{length, replicate, length-append, length-replicate}
-use Rattle.words.proofs.Tests.{and-left, and-right}
 use Rattle.head.specs.Busy.{isBusy}
 use Rattle.head.specs.Range.{inRange}
 use Rattle.head.specs.Tick.{tickOf, ticksOf}
 use Rattle.head.specs.declared.state.Settings.{Settings}
 use Rattle.head.specs.declared.state.Head.{Head}
+use Rattle.head.proofs.BusyTicks.{rest-stays}
 use Rattle.head.proofs.Keep.{tick-keeps}
 use Rattle.head.proofs.Ticks.{ticks-settings}
-use Rattle.schedule.specs.Earliest.{atRest}
 use Rattle.schedule.specs.Schedule.{Timed}
-use Rattle.schedule.proofs.Ready.{ticks-motion}
 use Rattle.run.specs.Run.{Moment, answered, momentLog, logOf, timesOf, momentsOf, headAfter}
 use Rattle.run.specs.Claim.{givenIn, AllObeyed, Resting, Held, StartsHeld}
 use Rattle.run.proofs.Segments.{quiet}
@@ -74,11 +70,7 @@ module _ (ms : List Moment) where
 
 -- a head at rest stays so, and ticks change no setting
 pub rest-ticks : (r : Settings) (n : ℕ) (s : Head) → inRange s ≡ true → Resting r s → Resting r (ticksOf n s)
-unfolding atRest
-rest-ticks r n s h p =
-    let m = eqb-true (s .motion .mirror) 0 (and-left (eqb (s .motion .mirror) 0) (eqb (s .motion .cover) 0) (p .0)) in
-    let c = eqb-true (s .motion .cover) 0 (and-right (eqb (s .motion .mirror) 0) (eqb (s .motion .cover) 0) (p .0)) in
-    (rw (ticks-motion n s h, m, c, zero-sub n), rw (ticks-settings n s h) (p .1))
+rest-ticks r n s h p = (rest-stays s h n (p .0), rw (ticks-settings n s h) (p .1))
 
 module _ (r : Settings) (ms : List Moment) (last : Head) (then : Held r ms last) where
   pub quiet-held : (n : ℕ) (s : Head) → inRange s ≡ true → Resting r s → Held r (quiet n s ++ ms) last

@@ -14,7 +14,7 @@ use Rattle.words.specs.Kinds as kind
 use Rattle.words.specs.Kinds.{allowed}
 use Rattle.words.specs.Codec.{wordOf}
 use Rattle.words.proofs.Tests.{and-right}
-use Rattle.head.specs.Busy.{isBusy, busyTicks}
+use Rattle.head.specs.Busy.{isBusy, atRest}
 use Rattle.head.specs.Range.{inRange}
 use Rattle.head.specs.Apply.{after, actOf}
 use Rattle.head.specs.Word.{outOfTurn, answerOf}
@@ -24,7 +24,7 @@ use Rattle.head.proofs.Keep.{word-keeps, tick-keeps}
 use Rattle.head.proofs.Ticks.{ticks-settings}
 use Rattle.plan.specs.Words.{Item, itemsOfAll}
 use Rattle.plan.specs.declared.order.Order.{Order}
-use Rattle.schedule.specs.Earliest.{isTaken, atRest, startWord, ready, delayOf}
+use Rattle.schedule.specs.Earliest.{isTaken, startWord, ready, delayOf}
 use Rattle.schedule.specs.Schedule.{Timed, readied, spanOf, sent, scheduleFrom}
 use Rattle.schedule.specs.Translate.{fit}
 use Rattle.schedule.proofs.InTurn.{Step, word, wait, InTurn, empty, given, paused, is-start}
@@ -57,11 +57,6 @@ done-quiet n s ms last x st ws d =
       held = quiet-starts ms last n s (d .held);
       idle = d .idle;
     }
-
--- a head that counts no busy tick is not busy
-not-busy : (s : Head) → s .work .busy ≡ 0 → isBusy s ≡ false
-unfolding isBusy busyTicks
-not-busy s z = rw z
 
 done-none : (t : ℕ) (s : Head) → isBusy s ≡ false → Done (momentsOf 0 t [] s) (headAfter 0 t [] s) (lastingOf s) [] []
 unfolding momentsOf headAfter appliedTo loggedFrom logOf givenIn
@@ -178,7 +173,7 @@ module _ (k b c : ℕ) (fine : allowed k b ≡ true) (turn : outOfTurn c k ≡ f
       let ms = momentsOf n u xs (sent s w) in
       let last = headAfter n u xs (sent s w) in
       let first = tickOf told .head in
-      let idle = not-busy (sent s w) (sent-idle k b c fine turn s i .idle) in
+      let idle = sent-idle k b c fine turn s i .idle in
       done-quiet d s (moment ∷ (quiet q first ++ ms)) last (lastingOf s) (word k b ∷ st) (w ∷ ws)
       (record {
         lasting = rw (← lasting-word) (h .lasting);
@@ -238,7 +233,7 @@ pub run-done : {c : ℕ} {is : List Item} {st : List Step} → InTurn c is st �
     st
     (wordsIn (scheduleFrom s t is .list))
 unfolding scheduleFrom
-run-done empty s i t = rw (sub-self t) (done-none t s (not-busy s (i .idle)))
+run-done empty s i t = rw (sub-self t) (done-none t s (i .idle))
 run-done {c} (given {is = is} {ms = st} k b fine turn r) s i t =
     let w = wordOf k b in
     let u = t + delayOf s w + spanOf (readied s w) w in

@@ -6,7 +6,7 @@ use mathlib.Core.Bool.{true, false}
 use mathlib.Core.List.{List, [], _∷_, map}
 use mathlib.Core.Option.{none, some}
 use lib.ListN.{length}
-use Rattle.head.specs.Busy.{isBusy}
+use Rattle.head.specs.Busy.{isBusy, atRest}
 use Rattle.head.specs.Word.{answerOf}
 use Rattle.head.specs.declared.state.Settings.{Settings}
 use Rattle.head.specs.declared.state.Head.{Head}
@@ -14,7 +14,7 @@ use Rattle.plan.specs.Reading.{settingsRead, logRead}
 use Rattle.plan.specs.Stored.{orders, mostOrders, planOf}
 use Rattle.plan.specs.Words.{itemsOfAll}
 use Rattle.plan.specs.declared.order.Order.{Order}
-use Rattle.schedule.specs.Earliest.{isTaken, startWord, atRest}
+use Rattle.schedule.specs.Earliest.{isTaken, startWord}
 use Rattle.schedule.specs.Clock.{latest}
 use Rattle.schedule.specs.Schedule.{Timed}
 use Rattle.schedule.specs.Translate.{fit, mostWords}

@@ -2,17 +2,18 @@
 -- is at most 4,194,240.
 -- Assumes nothing.
 use mathlib.Core.Path.{_≡_, refl}
-use mathlib.Core.Bool.{Bool, true, false, cond, _&&_}
+use mathlib.Core.Bool.{Bool, true, false, cond, not, _&&_}
 use mathlib.Core.List.{List, [], _∷_, _++_}
 use Prim.Native.Nat.{ℕ, suc, _+_, _*_, _≤_}
 use native.Mathlib.Nat.{add-zero, add-assoc}
 use native.Mathlib.Omega.{arith}
-use borrow.Author.Tests.{eqb-true}
+use borrow.Author.Tests.{not-true}
 use lib.Dec.{eqb}
 use lib.ListN.{length}
 use Rattle.words.specs.Codec.{wordOf}
 use Rattle.words.proofs.Tests.{and-left, and-right}
 use Rattle.head.specs.Limits.{hkTicks, lengthOf, longest}
+use Rattle.head.specs.Busy.{isBusy, atRest}
 use Rattle.head.specs.Range.{inRange}
 use Rattle.head.specs.Tick.{ticksOf}
 use Rattle.head.specs.declared.state.Head.{Head}
@@ -21,7 +22,7 @@ use Rattle.plan.specs.Codes as code
 use Rattle.plan.specs.Stored.{mostOrders}
 use Rattle.plan.specs.Words.{Item, itemsOf, itemsOfAll}
 use Rattle.plan.specs.declared.order.Order.{Order}
-use Rattle.schedule.specs.Earliest.{atRest, delayOf, startWord, hkWord}
+use Rattle.schedule.specs.Earliest.{delayOf, startWord, hkWord}
 use Rattle.schedule.specs.Schedule.{Timed, readied, spanOf, sent, scheduleFrom, Rising}
 use Rattle.words.proofs.Allowed.{allowed-bits}
 use Rattle.schedule.specs.Clock.{Near, clockOf, clockAfter, clockPaused, clockThrough, clockedFrom, longestWord, longestOrder, latest}
@@ -164,10 +165,10 @@ module _ (s : Head) (h : fit s ≡ true) where
   pub fit-idle : Idle s (s .begun .count)
   unfolding fit
   fit-idle =
-      let most = and-left (inRange s && eqb (s .work .busy) 0) (atRest s) h in
+      let most = and-left (inRange s && not (isBusy s)) (atRest s) h in
       record {
-        ranged = and-left (inRange s) (eqb (s .work .busy) 0) most;
-        idle = eqb-true (s .work .busy) 0 (and-right (inRange s) (eqb (s .work .busy) 0) most);
+        ranged = and-left (inRange s) (not (isBusy s)) most;
+        idle = not-true (isBusy s) (and-right (inRange s) (not (isBusy s)) most);
         count = refl;
       }
 

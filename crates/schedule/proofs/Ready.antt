@@ -11,31 +11,32 @@ use lib.Dec.{ltb, eqb}
 use Rattle.words.specs.Kinds as kind
 use Rattle.words.specs.Kinds.{allowed, mostSteps}
 use Rattle.words.specs.Codec.{wordOf}
+use Rattle.head.specs.Busy.{busyTicks, isBusy, atRest}
 use Rattle.head.specs.Range.{inRange}
 use Rattle.head.specs.Limits.{mirrorTicks, coverStepTicks, hkTicks, lengthOf}
 use Rattle.head.specs.Flags.{timeIr}
-use Rattle.head.specs.Apply.{after, workAfter, begunAfter}
+use Rattle.head.specs.Apply.{after, begunAfter}
 use Rattle.head.specs.Word.{ignored, outOfTurn, onWord, onDecoded, answerOf}
 use Rattle.head.specs.Tick.{tickOf, ticksOf}
-use Rattle.head.specs.Ticks.{elapsed, workLeft, motionLeft}
+use Rattle.head.specs.Ticks.{elapsed, motionLeft}
 use Rattle.head.specs.State.{noneBegun}
 use Rattle.head.specs.declared.state.Begun.{Begun}
 use Rattle.head.specs.declared.state.Motion.{Motion}
-use Rattle.head.specs.declared.state.Task.the-variants.{Acquisition, Housekeeping, Idle as Idling}
 use Rattle.head.specs.declared.state.Head.{Head}
 use Rattle.head.specs.declared.word.Cause.the-variants.{CoverMoving}
+use Rattle.head.proofs.BusyTicks.{idle-none, none-idle, idle-answer, busy-after, busy-falls}
 use Rattle.head.proofs.Bounds.{bounds}
 use Rattle.head.proofs.Answers.{taken}
 use Rattle.head.proofs.Keep.{word-keeps, ticks-keep}
 use Rattle.head.proofs.Ticks.{ticks-elapsed, ticks-begun}
-use Rattle.schedule.specs.Earliest.{atRest, isTaken, ready, delayWithin, delayOf}
+use Rattle.schedule.specs.Earliest.{isTaken, ready, delayWithin, delayOf}
 use Rattle.schedule.specs.Schedule.{readied, spanOf, sent}
 use Rattle.schedule.proofs.InTurn.{word-decoded, is-start, is-hk, countAfter}
 
 -- a head in range and idle, with so many words of a mirror set begun
 pub record Idle (s : Head) (c : ℕ) : Type 0 where
   pub ranged : inRange s ≡ true
-  pub idle : s .work .busy ≡ 0
+  pub idle : isBusy s ≡ false
   pub count : s .begun .count ≡ c
 
 -- it stays so as ticks pass, and the motions fall
@@ -44,15 +45,14 @@ module _ (n : ℕ) (s : Head) (h : inRange s ≡ true) where
   unfolding elapsed
   ticks-motion = rw (ticks-elapsed n s h)
 
-  pub ticks-busy : s .work .busy ≤ n → ticksOf n s .work .busy ≡ 0
-  unfolding elapsed workLeft
-  ticks-busy m = rw (ticks-elapsed n s h, le-leb (s .work .busy) n m)
+  pub ticks-idle : busyTicks s ≤ n → isBusy (ticksOf n s) ≡ false
+  ticks-idle m = let fall = busy-falls s h n in none-idle (ticksOf n s) (omega arith)
 
 pub idle-ticks : (n : ℕ) (s : Head) (c : ℕ) → Idle s c → Idle (ticksOf n s) c
 idle-ticks n s c i =
     record {
       ranged = ticks-keep n s (i .ranged);
-      idle = ticks-busy n s (i .ranged) (omega (arith, i .idle));
+      idle = ticks-idle n s (i .ranged) (let none = idle-none s (i .idle) in omega arith);
       count = rw (ticks-begun n s (i .ranged)) (i .count);
     }
 
@@ -121,8 +121,8 @@ module _ (k b c : ℕ) (fine : allowed k b ≡ true) (turn : outOfTurn c k ≡ f
   pub answer-idle : (s : Head) → Idle s c
       → answerOf s (wordOf k b)
       ≡ cond (eqb k kind.cover && ltb 0 (s .motion .cover)) (ignored s (timeIr (s .flags)) (s .begun) CoverMoving) (taken s k b)
-  unfolding answerOf onDecoded onWord
-  answer-idle s i = rw (i .ranged, i .idle, word-decoded k b fine, i .count, turn)
+  unfolding onDecoded onWord
+  answer-idle s i = rw (idle-answer s (wordOf k b) (i .ranged) (i .idle), word-decoded k b fine, i .count, turn)
 
   pub ready-free : (s : Head) → Idle s c → ready s (wordOf k b) ≡ free k (s .motion)
   unfolding ready free atRest isTaken
@@ -202,18 +202,17 @@ module _ (k b c : ℕ) (fine : allowed k b ≡ true) (turn : outOfTurn c k ≡ f
         rw (answer-idle t readied-idle, not-true moving (and-left (not moving) rest f))
 
   -- the span covers what the word makes the head busy with
-  busy-span : (s : Head) → s .work .busy ≡ 0 → workAfter s k .busy ≤ spanOf s (wordOf k b)
-  unfolding workAfter spanOf
-  busy-span s z = rw (is-start k b fine, is-hk k b fine) (go (eqb k kind.start) (eqb k kind.hk) (eqb k kind.stop))
+  busy-span : (s : Head) → isBusy s ≡ false → busyTicks (after s k b) ≤ spanOf s (wordOf k b)
+  unfolding spanOf
+  busy-span s idle =
+      rw (busy-after s k b, is-start k b fine, is-hk k b fine) (go (eqb k kind.start) (eqb k kind.hk) (eqb k kind.stop))
     where
-      go : (x y u : Bool)
-          → cond x (record { task = Acquisition; busy = lengthOf (s .settings) })
-          (cond y (record { task = Housekeeping; busy = hkTicks }) (cond u (record { task = Idling; busy = 0 }) (s .work))) .busy
-          ≤ cond x (lengthOf (s .settings)) (cond y hkTicks 1)
-      go true y u = omega arith
-      go false true u = omega arith
+      go : (x y z : Bool)
+          → cond x (lengthOf (s .settings)) (cond y hkTicks (cond z 0 (busyTicks s))) ≤ cond x (lengthOf (s .settings)) (cond y hkTicks 1)
+      go true y z = omega arith
+      go false true z = omega arith
       go false false true = omega arith
-      go false false false = omega arith
+      go false false false = let none = idle-none s idle in omega arith
 
   count-after : (s : Head) → s .begun .count ≡ c → begunAfter s k b .count ≡ countAfter c k
   unfolding begunAfter countAfter
@@ -248,6 +247,6 @@ module _ (k b c : ℕ) (fine : allowed k b ≡ true) (turn : outOfTurn c k ≡ f
         rw told-head
         (record {
           ranged = ticks-keep n (after t k b) ranged;
-          idle = ticks-busy n (after t k b) ranged (busy-span t (readied-idle s i .idle));
+          idle = ticks-idle n (after t k b) ranged (busy-span t (readied-idle s i .idle));
           count = rw (ticks-begun n (after t k b) ranged) (count-after t (readied-idle s i .count));
         })

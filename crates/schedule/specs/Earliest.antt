@@ -6,15 +6,12 @@ use mathlib.Core.Bool.{Bool, true, false, not, _&&_, _||_}
 use lib.Dec.{eqb}
 use Rattle.words.specs.Kinds.{mostSteps}
 use Rattle.head.specs.Limits.{coverStepTicks}
+use Rattle.head.specs.Busy.{atRest}
 use Rattle.head.specs.Word.{answerOf}
 use Rattle.head.specs.Tick.{tickOf}
 use Rattle.head.specs.declared.state.Head.{Head}
 use Rattle.head.specs.declared.word.Outcome.{Outcome}
 use Rattle.head.specs.declared.word.Outcome.the-variants.{Taken, Ignored}
-
--- Both motions are 0.
-unfoldable pub atRest : Head → Bool
-atRest s = eqb (s .motion .mirror) 0 && eqb (s .motion .cover) 0
 
 unfoldable pub isTaken : Outcome → Bool
 isTaken (Taken a) = true

@@ -5,19 +5,19 @@ use mathlib.Core.Bool.{Bool, cond, not, _&&_}
 use mathlib.Core.List.{List, [], map, _++_}
 use lib.Dec.{leb, eqb}
 use lib.ListN.{length, take, drop}
+use Rattle.head.specs.Busy.{isBusy, atRest}
 use Rattle.head.specs.Range.{inRange}
 use Rattle.head.specs.declared.state.Head.{Head}
 use Rattle.plan.specs.Stored.{Plan, orders, refused, mostOrders, planOf, planNumber, planPlace}
 use Rattle.plan.specs.Words.{itemsOfAll}
 use Rattle.plan.specs.declared.encoding.Words.{Words}
-use Rattle.schedule.specs.Earliest.{atRest}
 use Rattle.schedule.specs.Schedule.{Timed, Schedule, scheduleFrom}
 use Rattle.schedule.specs.declared.Translated.{Translated}
 use Rattle.schedule.specs.declared.Translated.the-variants.{Done, Refused, Short}
 
 -- In range, idle, and nothing moving.
 unfoldable pub fit : Head → Bool
-fit s = inRange s && eqb (s .work .busy) 0 && atRest s
+fit s = inRange s && not (isBusy s) && atRest s
 
 -- An order has at most four words, so a plan has at most 256.
 abbrev pub mostWords : ℕ

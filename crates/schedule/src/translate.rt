@@ -78,7 +78,7 @@ fn copy_out(words: &mut [u16], ticks: &mut [u32], sent: &[u16], times: &[u32], c
 pub fn is_fit(head: Head) -> bool
     ensures { λ r. ⌜ r ≡ fit head ⌝ }
 {
-    head.in_range() & (head.work.busy == 0) & ((head.motion.mirror == 0) & (head.motion.cover == 0))
+    head.in_range() & !head.is_busy() & head.at_rest()
 }
 
 // Fills the first places of words and ticks with the plan's, or refuses and writes to neither.

@@ -14,7 +14,7 @@ use Rattle.plan.specs.Stored.{orders, planOf}
 use Rattle.plan.specs.Words.{itemsOfAll}
 use Rattle.plan.specs.declared.order.Order.{Order}
 use Rattle.plan.proofs.Accepted.{accepted-fit}
-use Rattle.schedule.specs.Earliest.{atRest}
+use Rattle.head.specs.Busy.{busyTicks, isBusy, atRest}
 use Rattle.schedule.specs.Schedule.{Schedule, scheduleFrom}
 use Rattle.schedule.specs.Translate.{fit, scheduleOf}
 use Rattle.run.specs.Rehearse.{runTimes}
@@ -23,7 +23,7 @@ use Rattle.run.proofs.Equal.{compared-equal}
 use Rattle.text.specs.Sheet.{sheetOf, comparedText, sheetFor}
 
 on-fit : fit powerOn ≡ true
-unfolding fit atRest inRange allPass registerTests latchTests motionTests place begunTests workInRange least greatest
+unfolding fit busyTicks isBusy atRest inRange allPass registerTests latchTests motionTests place begunTests workInRange least greatest
 on-fit = refl
 
 module _ (bs : List ℕ) (os : List Order) (few : length bs ≤ 4096) (e : planOf bs ≡ orders os) where

@@ -16,7 +16,8 @@ use Rattle.plan.specs.Words.{sineRegister, wordsOf, itemsOf, itemsOfAll}
 use Rattle.plan.specs.Reading.{settingsBy, entriesBy, settingsRead, logRead}
 use Rattle.plan.specs.Rows.{settingsRow, entryRow, rowsOf, endRow, recordOf}
 use Rattle.plan.specs.Read.{readRecord}
-use Rattle.schedule.specs.Earliest.{atRest, isTaken, ready, delayWithin, delayOf}
+use Rattle.head.specs.Busy.{busyTicks, isBusy, atRest}
+use Rattle.schedule.specs.Earliest.{isTaken, ready, delayWithin, delayOf}
 use Rattle.schedule.specs.Schedule.{readied, spanOf, sent, scheduleFrom}
 use Rattle.schedule.specs.Translate.{fit, scheduleOf, answerOfPlan, translateOf}
 use Rattle.run.specs.Run.{wordAt, answered, next, momentsOf, headAfter, entryOf, entriesOf, momentLog, logOf, timesOf}
@@ -35,7 +36,7 @@ example = 0x01 ∷ 0x00 ∷ 0x0A ∷ 0x05 ∷ 0x0C ∷ 0xFF ∷ 0x00 ∷ 0x0F �
 
 pub example-listed : printedFor example ≡ ascii "tick word\n0 2011\n1 A000\n2 600F\n3 E0F8\n33 8000\n191 4000\nend 194\n"
 unfolding printedFor answerText listingOf headLine wordLines wordLine endLine ascii decimalOf decimalWithin hexOf hexDigit
-    translateOf answerOfPlan fit scheduleOf scheduleFrom readied spanOf sent ready atRest isTaken delayOf delayWithin
+    translateOf answerOfPlan fit scheduleOf scheduleFrom readied spanOf sent ready busyTicks isBusy atRest isTaken delayOf delayWithin
     planOf headerFault ordersFrom faultAt orderAt fieldAt countOf widthOf known orderLength fieldsFit within related
     itemsOfAll itemsOf wordsOf sineRegister answerOf onDecoded onWord outOfTurn after actOf tickOf ticksOf passed
     inRange allPass registerTests latchTests motionTests place begunTests workInRange lengthOf readoutOf
@@ -57,7 +58,7 @@ unfolding sheetFor comparedText sheetOf actsHeadLine settingsLine endTimeLine eq
     windowText timesText detectorText motorText mirrorText levelText sineText durationText secondsOf ascii decimalOf decimalWithin
     comparedOf comparedBy same runRecord runTimes recordOf rowsOf entryRow settingsRow endRow readRecord settingsRead logRead settingsBy entriesBy
     momentsOf wordAt answered next headAfter logOf momentLog entriesOf entryOf timesOf
-    translateOf answerOfPlan fit scheduleOf scheduleFrom readied spanOf sent ready atRest isTaken delayOf delayWithin
+    translateOf answerOfPlan fit scheduleOf scheduleFrom readied spanOf sent ready busyTicks isBusy atRest isTaken delayOf delayWithin
     planOf headerFault ordersFrom faultAt orderAt fieldAt countOf widthOf known orderLength fieldsFit within related
     itemsOfAll itemsOf wordsOf sineRegister answerOf onDecoded onWord outOfTurn after actOf tickOf ticksOf passed
     inRange allPass registerTests latchTests motionTests place begunTests workInRange lengthOf readoutOf
