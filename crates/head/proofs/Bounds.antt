@@ -255,7 +255,7 @@ module _ (r : Settings) where
       go true = omega arith
       go false = omega arith
 
-  pub length-bounds : RegisterBounds r → (156 ≤ lengthOf r) × (lengthOf r ≤ 4238)
+  pub length-bounds : RegisterBounds r → (156 ≤ lengthOf r) × (lengthOf r ≤ longest)
   unfolding lengthOf
   length-bounds h = let b = readout-bounds in omega arith
 

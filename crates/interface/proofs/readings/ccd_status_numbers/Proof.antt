@@ -8,7 +8,7 @@ bit-requires : tie.Need-bit-requires
 bit-requires c κs = search needs
 
 returns : tie.Need-returns
-returns c = cc
+returns c = rw (c .bit .ensures)
 
 pub ccd-status-numbers-spec : {M : Type 1} → statement M
 ccd-status-numbers-spec = tie.close (tie.spec bit-requires returns)

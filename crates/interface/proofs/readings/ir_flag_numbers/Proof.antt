@@ -35,7 +35,7 @@ bit-requires-10 : tie.Need-bit-requires-10
 bit-requires-10 c κs = search needs
 
 returns : tie.Need-returns
-returns c = cc
+returns c = rw (c .bit10 .ensures, c .before .bit9 .ensures, c .before .before .bit8 .ensures, c .before .before .before .bit7 .ensures, c .before .before .before .before .bit6 .ensures, c .before .before .before .before .before .bit5 .ensures, c .before .before .before .before .before .before .bit4 .ensures, c .before .before .before .before .before .before .before .bit3 .ensures, c .before .before .before .before .before .before .before .before .bit2 .ensures, c .before .before .before .before .before .before .before .before .before .bit .ensures)
 
 pub ir-flag-numbers-spec : {M : Type 1} → statement M
 ir-flag-numbers-spec =

@@ -11,7 +11,7 @@ bit-requires-2 : tie.Need-bit-requires-2
 bit-requires-2 c κs = search needs
 
 returns : tie.Need-returns
-returns c = cc
+returns c = rw (c .bit2 .ensures, c .before .bit .ensures)
 
 pub ir-status-numbers-spec : {M : Type 1} → statement M
 ir-status-numbers-spec = tie.close (tie.spec bit-requires bit-requires-2 returns)

@@ -44,7 +44,11 @@ shared-slice-read-t27 : tie.Need-shared-slice-read-t27
 shared-slice-read-t27 c = search needs
 
 returns : tie.Need-returns
-returns c = cc
+returns c =
+    let at-task = c .before .before .before .before .before .before .before in
+    let at-flags = at-task .before .before in
+    let at-settings = at-flags .before .before .before in
+    rw (at-task .task-of .ensures, at-flags .flags-of .ensures, at-settings .settings-of .ensures)
 
 pub load-spec : {M : Type 1} → statement M
 load-spec =
