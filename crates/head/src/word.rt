@@ -54,7 +54,7 @@ pub struct Answered {
 }
 
 // The act of a word that is taken.
-pub fn act_of(kind: u8, bits: u16) -> Act
+fn act_of(kind: u8, bits: u16) -> Act
     ensures { λ r. ⌜ r ≡ actOf kind bits ⌝ }
 {
     if kind == START {
@@ -70,7 +70,7 @@ pub fn act_of(kind: u8, bits: u16) -> Act
 }
 
 // Whether this is a mirror word out of turn after so many words of a set.
-pub fn out_of_turn(count: u16, kind: u8) -> bool
+fn out_of_turn(count: u16, kind: u8) -> bool
     ensures { λ r. ⌜ r ≡ outOfTurn count kind ⌝ }
 {
     if kind <= SIN_M {
