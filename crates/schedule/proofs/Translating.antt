@@ -1,7 +1,7 @@
 -- The ways through `translate`. W and T are the two lists as they were lent.
 -- Assumes nothing.
 use mathlib.Core.Path.{_≡_, refl, sym, ap, _∙_}
-use mathlib.Core.Bool.{Bool, true, false, cond, not, _&&_}
+use mathlib.Core.Bool.{Bool, true, false, cond, not, _&&_, and-false, and-true}
 use mathlib.Core.List.{List, [], _∷_, _++_}
 use Prim.Native.Nat.{ℕ, _+_, _≤_, _<_}
 use native.Mathlib.Omega.{arith}
@@ -10,6 +10,8 @@ use borrow.Author.Tests.{le-leb, lt-leb, not-true, not-false}
 use lib.Dec.{leb}
 use lib.ListN.{length, take, drop, length-map, length-append}
 use lib.Seq.{sets, paste, take-at}
+use Rattle.head.specs.Range.{inRange}
+use Rattle.head.specs.Busy.{isBusy, atRest}
 use Rattle.head.specs.declared.state.Head.{Head}
 use Rattle.plan.specs.Stored.{Plan, orders, refused, headerFault, ordersFrom, mostOrders, planOf, ordersIn}
 use Rattle.plan.specs.Words.{itemsOfAll, wordsOf}
@@ -172,3 +174,13 @@ module _ (s : Head) (bs W T : List ℕ) {f : Bool} (is-fit : f ≡ fit s) where
                 both : (c : Clock) (os : List Order) → length (tickList (timedBy c os)) ≡ length (wordList (timedBy c os))
                 both c os =
                     length-map (timedBy c os .list) (λ (x : Timed). x .tick) ∙ sym (length-map (timedBy c os .list) (λ (x : Timed). x .word))
+
+-- `is_fit`: r is whether nothing moves
+module _ (s : Head) (r : Bool) (rest : r ≡ atRest s) where
+  pub way-moving : not r ≡ true → false ≡ fit s
+  unfolding fit
+  way-moving e = rw (← rest, not-true r e) (sym (and-false (inRange s && not (isBusy s))))
+
+  pub way-resting : not r ≡ false → (i b : Bool) → i ≡ inRange s → b ≡ isBusy s → (i && not b) ≡ fit s
+  unfolding fit
+  way-resting e i b ranged busy = rw (← rest, not-false r e, ranged, busy) (sym (and-true (inRange s && not (isBusy s))))

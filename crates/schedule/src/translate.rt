@@ -78,7 +78,10 @@ fn copy_out(words: &mut [u16], ticks: &mut [u32], sent: &[u16], times: &[u32], c
 pub fn is_fit(head: Head) -> bool
     ensures { λ r. ⌜ r ≡ fit head ⌝ }
 {
-    head.in_range() & !head.is_busy() & head.at_rest()
+    if !head.at_rest() {
+        return false;
+    }
+    head.in_range() & !head.is_busy()
 }
 
 // Fills the first places of words and ticks with the plan's, or refuses and writes to neither.
