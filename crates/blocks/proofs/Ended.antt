@@ -8,7 +8,8 @@ use borrow.Author.Tests.{eq-eqb}
 use lib.ListN.{length}
 use Rattle.head.specs.Range.{inRange}
 use Rattle.head.specs.Busy.{busyTicks}
-use Rattle.head.specs.Tick.{tickOf, ticksOf}
+use Rattle.head.specs.Flags.{shown}
+use Rattle.head.specs.Tick.{taskOf, tickOf, ticksOf}
 use Rattle.head.specs.declared.state.Head.{Head}
 use Rattle.head.specs.declared.tick.Due.the-variants as due
 use Rattle.head.proofs.BusyTicks.{last-due}
@@ -24,7 +25,7 @@ use Rattle.blocks.specs.declared.written.Written.the-variants.{Done}
 use Rattle.blocks.specs.declared.due.DueWritten.the-variants.{Blocks}
 
 module _ (s : Head) (h : inRange s ≡ true) (last : busyTicks s ≡ 1) where
-  ends : tickOf s .due ≡ due.Blocks (s .work .task) (s .flags)
+  ends : tickOf s .due ≡ due.Blocks (taskOf (s .work .task)) (shown (s .flags))
   ends = last-due s h last
 
   kept : tickOf s .head .settings ≡ s .settings
@@ -42,12 +43,12 @@ module _ (s : Head) (h : inRange s ≡ true) (last : busyTicks s ≡ 1) where
 
     pub ended-ir : (readings : List ℕ) (bits : IrBits)
         → irDueAfter (tickOf s .head) (tickOf s .due) readings bits ir ccd
-        ≡ irBlockOf s (s .flags) (acquisition (s .work .task)) readings bits
+        ≡ irBlockOf s (shown (s .flags)) (acquisition (taskOf (s .work .task))) readings bits
     unfolding irDueAfter bufferAfter irBlockOf irShown
     ended-ir readings bits = rw (ends, both, kept)
 
     pub ended-ccd : (readings : List ℕ) (bits : CcdBits)
         → ccdDueAfter (tickOf s .head) (tickOf s .due) readings bits ir ccd
-        ≡ ccdBlockOf s (s .flags) (acquisition (s .work .task)) readings bits
+        ≡ ccdBlockOf s (shown (s .flags)) (acquisition (taskOf (s .work .task))) readings bits
     unfolding ccdDueAfter bufferAfter ccdBlockOf ccdShown
     ended-ccd readings bits = rw (ends, both, kept)

@@ -7,8 +7,8 @@ use Prim.Native.Nat.{ℕ, _+_, _*_, _/_, _%_, _<_, _≤_}
 use native.Mathlib.Omega.{arith}
 use lib.Dec.{lit≤}
 use Rattle.words.specs.Kinds.{rows, least, greatest, allowed}
-use Rattle.head.specs.Range.{inRange, allPass, registerTests, latchTests, motionTests, begunTests, place, workInRange}
-use Rattle.head.proofs.Bounds.{bounds, in-range, RegisterBounds}
+use Rattle.head.specs.Range.{inRange}
+use Rattle.head.proofs.Bounds.{bounds, in-range, power-on-range, RegisterBounds}
 use Rattle.head.specs.State.{powerOn}
 use Rattle.blocks.specs.Status.{bit, isSet, sineWord, sineFields, composed}
 use Rattle.blocks.specs.Ir.{irShown, irBlockOf, irRead, irReadOf}
@@ -37,10 +37,6 @@ switched-current false c = omega arith
 bit-most : (b : Bool) → bit b ≤ 1
 bit-most true = omega arith
 bit-most false = omega arith
-
-power-on : inRange powerOn ≡ true
-unfolding inRange allPass registerTests latchTests motionTests begunTests place workInRange least greatest rows allowed
-power-on = refl
 
 module _ (m : IrMeaning) (n : CcdMeaning) where
   ir-said : irShown (headSaid m n) (flagsSaid m n) (m .flags .acquired) (irBitsSaid m) ≡ m
@@ -88,11 +84,12 @@ module _ (m : IrMeaning) (n : CcdMeaning) where
 
     pub said-in-range : inRange (headSaid m n) ≡ true
     said-in-range =
-        let p = bounds powerOn power-on in
+        let p = bounds powerOn power-on-range in
         in-range (headSaid m n)
         (record {
           settings = registers-said;
           latches = p .latches;
+          flags = p .flags;
           motion = p .motion;
           begun = p .begun;
           work = p .work;

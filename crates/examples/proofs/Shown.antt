@@ -4,11 +4,11 @@ use lib.Dec.{T}
 use Rattle.words.specs.Kinds.{rows, kindFrom, kindOf, kinds, least, greatest, allowed}
 use Rattle.words.specs.Codec.{decodeOf, judged, decodedNumber, wordOf}
 use Rattle.head.specs.Limits.{lengthOf, readoutOf}
-use Rattle.head.specs.Range.{allPass, registerTests, latchTests, motionTests, place, begunTests, workInRange, inRange}
+use Rattle.head.specs.Range.{allPass, registerTests, latchTests, flagTests, motionTests, place, begunTests, workInRange, inRange}
 use Rattle.head.specs.Flags.{outOfRangeFlags}
 use Rattle.head.specs.Apply.{after, actOf}
 use Rattle.head.specs.Word.{outOfTurn, onWord, onDecoded, answerOf}
-use Rattle.head.specs.Tick.{tickOf, ticksOf, passed}
+use Rattle.head.specs.Tick.{taskOf, tickOf, ticksOf, passed}
 use Rattle.head.specs.Numbers.{actNumber, causeNumber, outcomeNumber}
 use Rattle.blocks.specs.Status.{lampShutterWord, lampShutterFields, irFlagWord, irFlagFields, sineWord, sineIn, sineFields, visFlagWord, visFlagFields, composed, valuesIn}
 use Rattle.blocks.specs.Written.{writtenOf, writtenIf, bufferAfter}
@@ -26,8 +26,8 @@ use Rattle.examples.specs.Starred.{hold, table, afterWords, answered, ho
 
 pub starred : T (hold table)
 unfolding hold table afterWords answered housekept irHousekept ccdHousekept
-    outcomeNumber actNumber causeNumber answerOf onDecoded onWord outOfTurn after actOf outOfRangeFlags tickOf ticksOf passed
-    inRange allPass registerTests latchTests motionTests place begunTests workInRange lengthOf readoutOf
+    outcomeNumber actNumber causeNumber answerOf onDecoded onWord outOfTurn after actOf outOfRangeFlags taskOf tickOf ticksOf passed
+    inRange allPass registerTests latchTests flagTests motionTests place begunTests workInRange lengthOf readoutOf
     decodedNumber decodeOf judged kindOf kindFrom kinds rows least greatest allowed wordOf
     irDueAfter ccdDueAfter bothWrittenOf writtenOf writtenIf bufferAfter acquisition irBlockOf irShown irStatus ccdBlockOf ccdShown
     ccdStatus lampShutterWord lampShutterFields irFlagWord irFlagFields sineWord sineIn sineFields visFlagWord visFlagFields composed

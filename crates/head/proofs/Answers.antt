@@ -2,8 +2,9 @@
 -- taken with all that this implies.
 -- Assumes nothing.
 use mathlib.Core.Path.{_≡_, refl}
-use mathlib.Core.Bool.{Bool, true, false, cond, not, _&&_}
+use mathlib.Core.Bool.{Bool, true, false, cond, not, _&&_, _||_}
 use Prim.Native.Nat.{ℕ}
+use native.Mathlib.Omega.{arith}
 use lib.Dec.{eqb, ltb}
 use Rattle.words.specs.Kinds as kind
 use Rattle.words.specs.Codec.{decodeOf}
@@ -11,16 +12,28 @@ use Rattle.words.specs.declared.Decoded.{Decoded}
 use Rattle.words.specs.declared.Decoded.the-variants.{Word, Unknown, OutOfRange}
 use Rattle.head.specs.Range.{inRange}
 use Rattle.head.specs.State.{noneBegun}
-use Rattle.head.specs.Flags.{timeBoth, timeIr, wordBoth, scanned, mirrorWord, outOfRangeFlags}
+use Rattle.head.specs.Flags.{timeBoth, timeIr, wordBoth, wordVis, wordIr, scanned, mirrorWord, forVis, forBoth, outOfRangeFlags}
 use Rattle.head.specs.Apply.{after, actOf}
 use Rattle.head.specs.Word.{ignored, outOfTurn, onWord, onDecoded, stopWord, answerOf}
-use Rattle.head.specs.declared.state.Flags.{Flags}
+use Rattle.head.specs.declared.state.FlagBits.{FlagBits}
 use Rattle.head.specs.declared.state.Begun.{Begun}
 use Rattle.head.specs.declared.state.Head.{Head}
 use Rattle.head.specs.declared.word.Cause.{Cause}
 use Rattle.head.specs.declared.word.Cause.the-variants.{State, Busy, CoverMoving, UnknownWord, Range, Turn}
 use Rattle.head.specs.declared.word.Outcome.the-variants.{Taken}
 use Rattle.head.specs.declared.word.Answered.{Answered}
+use Rattle.head.proofs.Bounds.{FlagBounds}
+
+-- the flags of a word that is out of range
+out-of-range : (k : ℕ) (f : FlagBits) → FlagBounds f → FlagBounds (outOfRangeFlags k f)
+unfolding outOfRangeFlags
+out-of-range k f h = go (forVis k) (mirrorWord k || eqb k kind.switch) (forBoth k)
+  where
+    go : (x y z : Bool) → FlagBounds (cond x (wordVis f) (cond y (scanned f) (cond z (wordBoth f) (wordIr f))))
+    go true y z = omega arith
+    go false true z = omega arith
+    go false false true = omega arith
+    go false false false = omega arith
 
 -- a begun set is kept or dropped
 pub data Kept (old : Begun) : Begun → Type 0 where
@@ -39,7 +52,7 @@ abbrev pub taken : Head → ℕ → ℕ → Answered
 taken s k b = record { head = after s k b; outcome = Taken (actOf k b) }
 
 pub data Answer (s : Head) (w : ℕ) : Answered → Type 0 where
-  ignoring : (f : Flags) (g : Begun) (c : Cause) → Kept (s .begun) g → Answer s w (ignored s f g c)
+  ignoring : (f : FlagBits) (g : Begun) (c : Cause) → (FlagBounds (s .flags) → FlagBounds f) → Kept (s .begun) g → Answer s w (ignored s f g c)
   taking : (k b : ℕ) → Passed s w k b → Answer s w (taken s k b)
 
 module _ (s : Head) (w : ℕ) where
@@ -56,16 +69,16 @@ module _ (s : Head) (w : ℕ) where
             → Answer s w
             (cond x (ignored s (timeIr (s .flags)) (s .begun) CoverMoving)
             (cond y (ignored s (scanned (s .flags)) noneBegun Turn) (taken s k b)))
-        go true p y q = ignoring (timeIr (s .flags)) (s .begun) CoverMoving same
-        go false p true q = ignoring (scanned (s .flags)) noneBegun Turn dropped
+        go true p y q = ignoring (timeIr (s .flags)) (s .begun) CoverMoving (λ h. omega arith) same
+        go false p true q = ignoring (scanned (s .flags)) noneBegun Turn (λ h. omega arith) dropped
         go false p false q = taking k b (record { ranged = ranged; free = free; decoded = e; still = p; turn = q })
 
     on-decoded : (d : Decoded) → decodeOf w ≡ d → Answer s w (onDecoded s d)
     unfolding onDecoded
     on-decoded (Word k b) e = on-word k b e
-    on-decoded Unknown e = ignoring (wordBoth (s .flags)) (s .begun) UnknownWord same
+    on-decoded Unknown e = ignoring (wordBoth (s .flags)) (s .begun) UnknownWord (λ h. omega arith) same
     on-decoded (OutOfRange k) e =
-        ignoring (outOfRangeFlags k (s .flags)) (cond (mirrorWord k) noneBegun (s .begun)) Range (kept (mirrorWord k))
+        ignoring (outOfRangeFlags k (s .flags)) (cond (mirrorWord k) noneBegun (s .begun)) Range (out-of-range k (s .flags)) (kept (mirrorWord k))
 
   pub answer : Answer s w (answerOf s w)
   unfolding answerOf
@@ -75,6 +88,6 @@ module _ (s : Head) (w : ℕ) where
           → Answer s w
           (cond (not x) (ignored s (s .flags) (s .begun) State)
           (cond y (ignored s (timeBoth (s .flags)) (s .begun) Busy) (onDecoded s (decodeOf w))))
-      go false p y q = ignoring (s .flags) (s .begun) State same
-      go true p true q = ignoring (timeBoth (s .flags)) (s .begun) Busy same
+      go false p y q = ignoring (s .flags) (s .begun) State (λ h. h) same
+      go true p true q = ignoring (timeBoth (s .flags)) (s .begun) Busy (λ h. omega arith) same
       go true p false q = on-decoded p q (decodeOf w) refl

@@ -12,13 +12,13 @@ use Rattle.words.specs.Fields.{steps}
 use Rattle.words.specs.Kinds.{rows, least, greatest, allowed, mostSteps}
 use Rattle.words.proofs.Tests.{and-left, and-right}
 use Rattle.head.specs.Limits.{hkTicks, mirrorTicks, coverStepTicks, longest, lengthBy, lengthOf, readoutOf}
-use Rattle.head.specs.Range.{allPass, registerTests, latchTests, motionTests, begunTests, place, workInRange, inRange}
+use Rattle.head.specs.State.{powerOn, noTask, acquisition, housekeeping}
+use Rattle.head.specs.Range.{allPass, registerTests, latchTests, flagTests, motionTests, begunTests, place, workInRange, inRange}
 use Rattle.head.specs.declared.state.Settings.{Settings}
 use Rattle.head.specs.declared.state.Latches.{Latches}
+use Rattle.head.specs.declared.state.FlagBits.{FlagBits}
 use Rattle.head.specs.declared.state.Motion.{Motion}
 use Rattle.head.specs.declared.state.Begun.{Begun}
-use Rattle.head.specs.declared.state.Task.{Task}
-use Rattle.head.specs.declared.state.Task.the-variants.{Idle, Acquisition, Housekeeping}
 use Rattle.head.specs.declared.state.Head.{Head}
 
 -- each test of a list holds
@@ -92,6 +92,21 @@ latched l h = let e = each (latchTests l) h in omega (arith, leb-true)
 pub latched-back : (l : Latches) → LatchBounds l → allPass true (latchTests l) ≡ true
 unfolding latchTests greatest rows
 latched-back l h = all-of (latchTests l) (omega (arith, le-leb))
+
+pub record FlagBounds (f : FlagBits) : Type 0 where
+  pub irtime : f .irtime ≤ 1
+  pub irword : f .irword ≤ 1
+  pub scan : f .scan ≤ 1
+  pub vistime : f .vistime ≤ 1
+  pub visword : f .visword ≤ 1
+
+pub flagged : (f : FlagBits) → allPass true (flagTests f) ≡ true → FlagBounds f
+unfolding flagTests
+flagged f h = let e = each (flagTests f) h in omega (arith, leb-true)
+
+pub flagged-back : (f : FlagBits) → FlagBounds f → allPass true (flagTests f) ≡ true
+unfolding flagTests
+flagged-back f h = all-of (flagTests f) (omega (arith, le-leb))
 
 pub record MotionBounds (m : Motion) : Type 0 where
   pub mirror : m .mirror ≤ mirrorTicks
@@ -182,31 +197,45 @@ begun-back g h =
     )
 
 -- what the head is doing, and for how many ticks yet
-abbrev pub Working : Task → ℕ → Type 0
-Working Idle n = n ≡ 0
-Working Acquisition n = (1 ≤ n) × (n ≤ longest)
-Working Housekeeping n = (1 ≤ n) × (n ≤ hkTicks)
+pub data Working : ℕ → ℕ → Type 0 where
+  idle : Working noTask 0
+  acquiring : (n : ℕ) → 1 ≤ n → n ≤ longest → Working acquisition n
+  requesting : (n : ℕ) → 1 ≤ n → n ≤ hkTicks → Working housekeeping n
 
-pub working : (t : Task) (n : ℕ) → workInRange t n ≡ true → Working t n
+pub working : (t n : ℕ) → workInRange t n ≡ true → Working t n
 unfolding workInRange
-working Idle n h = eqb-true n 0 h
-working Acquisition n h = (leb-true 1 n (and-left (leb 1 n) (leb n longest) h), leb-true n longest (and-right (leb 1 n) (leb n longest) h))
-working Housekeeping n h = (leb-true 1 n (and-left (leb 1 n) (leb n hkTicks) h), leb-true n hkTicks (and-right (leb 1 n) (leb n hkTicks) h))
+working t n h = go (eqb t noTask) refl (eqb t acquisition) refl
+  where
+    last : Bool
+    last = eqb t housekeeping
 
-pub working-back : (t : Task) (n : ℕ) → Working t n → workInRange t n ≡ true
+    go : (x : Bool) → eqb t noTask ≡ x → (y : Bool) → eqb t acquisition ≡ y → Working t n
+    go true p y q = rw (eqb-true t noTask p, eqb-true n 0 (rw p at h)) idle
+    go false p true q =
+        let both : (leb 1 n && leb n longest) ≡ true = rw (p, q) at h in
+        rw (eqb-true t acquisition q)
+        (acquiring n (leb-true 1 n (and-left (leb 1 n) (leb n longest) both)) (leb-true n longest (and-right (leb 1 n) (leb n longest) both)))
+    go false p false q =
+        let all : (last && (leb 1 n && leb n hkTicks)) ≡ true = rw (p, q) at h in
+        let both = and-right last (leb 1 n && leb n hkTicks) all in
+        rw (eqb-true t housekeeping (and-left last (leb 1 n && leb n hkTicks) all))
+        (requesting n (leb-true 1 n (and-left (leb 1 n) (leb n hkTicks) both)) (leb-true n hkTicks (and-right (leb 1 n) (leb n hkTicks) both)))
+
+pub working-back : (t n : ℕ) → Working t n → workInRange t n ≡ true
 unfolding workInRange
-working-back Idle n h = eq-eqb n 0 h
-working-back Acquisition n h = rw (le-leb 1 n (h .0), le-leb n longest (h .1))
-working-back Housekeeping n h = rw (le-leb 1 n (h .0), le-leb n hkTicks (h .1))
+working-back t n idle = refl
+working-back t n (acquiring m p q) = rw (le-leb 1 n p, le-leb n longest q)
+working-back t n (requesting m p q) = rw (le-leb 1 n p, le-leb n hkTicks q)
 
-pub working-most : (t : Task) (n : ℕ) → Working t n → n ≤ longest
-working-most Idle n h = omega arith
-working-most Acquisition n h = omega arith
-working-most Housekeeping n h = omega arith
+pub working-most : (t n : ℕ) → Working t n → n ≤ longest
+working-most t n idle = omega arith
+working-most t n (acquiring m p q) = q
+working-most t n (requesting m p q) = omega arith
 
 pub record Bounds (s : Head) : Type 0 where
   pub settings : RegisterBounds (s .settings)
   pub latches : LatchBounds (s .latches)
+  pub flags : FlagBounds (s .flags)
   pub motion : MotionBounds (s .motion)
   pub begun : BegunBounds (s .begun)
   pub work : Working (s .work .task) (s .work .busy)
@@ -218,18 +247,21 @@ module _ (s : Head) where
   bounds h =
       let a = allPass true (registerTests (s .settings)) in
       let b = allPass true (latchTests (s .latches)) in
+      let f = allPass true (flagTests (s .flags)) in
       let c = allPass true (motionTests (s .motion)) in
       let d = allPass true (begunTests (s .begun)) in
       let e = workInRange (s .work .task) (s .work .busy) in
-      let abcd = and-left (a && b && c && d) e h in
-      let abc = and-left (a && b && c) d abcd in
-      let ab = and-left (a && b) c abc in
-      let w = working (s .work .task) (s .work .busy) (and-right (a && b && c && d) e h) in
+      let abfcd = and-left (a && b && f && c && d) e h in
+      let abfc = and-left (a && b && f && c) d abfcd in
+      let abf = and-left (a && b && f) c abfc in
+      let ab = and-left (a && b) f abf in
+      let w = working (s .work .task) (s .work .busy) (and-right (a && b && f && c && d) e h) in
       record {
         settings = registers (s .settings) (and-left a b ab);
         latches = latched (s .latches) (and-right a b ab);
-        motion = motions (s .motion) (and-right (a && b) c abc);
-        begun = begun (s .begun) (and-right (a && b && c) d abcd);
+        flags = flagged (s .flags) (and-right (a && b) f abf);
+        motion = motions (s .motion) (and-right (a && b && f) c abfc);
+        begun = begun (s .begun) (and-right (a && b && f && c) d abfcd);
         work = w;
         busy = working-most (s .work .task) (s .work .busy) w;
       }
@@ -240,10 +272,15 @@ module _ (s : Head) where
       rw (
         registers-back (s .settings) (h .settings),
         latched-back (s .latches) (h .latches),
+        flagged-back (s .flags) (h .flags),
         motions-back (s .motion) (h .motion),
         begun-back (s .begun) (h .begun),
       )
       (working-back (s .work .task) (s .work .busy) (h .work))
+
+pub power-on-range : inRange powerOn ≡ true
+unfolding inRange allPass registerTests latchTests flagTests motionTests begunTests place workInRange least greatest rows allowed
+power-on-range = refl
 
 -- an acquisition's length lies in 156..4238
 module _ (r : Settings) where

@@ -12,15 +12,16 @@ use Rattle.words.specs.Codec.{decodeOf}
 use Rattle.words.specs.Kinds as kind
 use Rattle.words.proofs.Tests.{and-left, and-right}
 use Rattle.head.specs.Limits.{hkTicks, lengthOf}
+use Rattle.head.specs.State.{noTask, acquisition, housekeeping}
+use Rattle.head.specs.Flags.{shown}
 use Rattle.head.specs.Range.{inRange}
 use Rattle.head.specs.Busy.{busyTicks, isBusy, atRest}
 use Rattle.head.specs.Apply.{after, workAfter}
 use Rattle.head.specs.Word.{onDecoded, answerOf}
-use Rattle.head.specs.Tick.{passed, tickOf, ticksOf}
+use Rattle.head.specs.Tick.{taskOf, passed, tickOf, ticksOf}
 use Rattle.head.specs.Ticks.{elapsed, workLeft}
 use Rattle.head.specs.declared.state.Work.{Work}
 use Rattle.head.specs.declared.state.Head.{Head}
-use Rattle.head.specs.declared.state.Task.the-variants.{Idle, Acquisition, Housekeeping}
 use Rattle.head.specs.declared.tick.Due.the-variants.{Blocks}
 use Rattle.head.proofs.Ticks.{ticks-elapsed}
 
@@ -46,8 +47,8 @@ module _ (s : Head) where
   busy-after k b = go (eqb k kind.start) (eqb k kind.hk) (eqb k kind.stop)
     where
       go : (x y z : Bool)
-          → cond x (record { task = Acquisition; busy = lengthOf (s .settings) })
-          (cond y (record { task = Housekeeping; busy = hkTicks }) (cond z (record { task = Idle; busy = 0 }) (s .work))) .busy
+          → cond x (record { task = acquisition; busy = lengthOf (s .settings) })
+          (cond y (record { task = housekeeping; busy = hkTicks }) (cond z (record { task = noTask; busy = 0 }) (s .work))) .busy
           ≡ cond x (lengthOf (s .settings)) (cond y hkTicks (cond z 0 (s .work .busy)))
       go true y z = refl
       go false true z = refl
@@ -60,12 +61,12 @@ module _ (s : Head) where
     busy-falls n = rw (ticks-elapsed n s h) (go (leb (s .work .busy) n) refl)
       where
         go : (x : Bool) → leb (s .work .busy) n ≡ x
-            → cond {A = Work} x (record { task = Idle; busy = 0 }) (record { task = s .work .task; busy = s .work .busy - n }) .busy ≡ s .work .busy - n
+            → cond {A = Work} x (record { task = noTask; busy = 0 }) (record { task = s .work .task; busy = s .work .busy - n }) .busy ≡ s .work .busy - n
         go true e = let l = leb-true (s .work .busy) n e in omega arith
         go false e = refl
 
     -- at the last busy tick both blocks are due
-    pub last-due : busyTicks s ≡ 1 → tickOf s .due ≡ Blocks (s .work .task) (s .flags)
+    pub last-due : busyTicks s ≡ 1 → tickOf s .due ≡ Blocks (taskOf (s .work .task)) (shown (s .flags))
     unfolding busyTicks tickOf passed
     last-due e = rw (h, eq-eqb (s .work .busy) 1 e)
 

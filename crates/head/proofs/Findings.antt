@@ -22,7 +22,7 @@ use Rattle.head.specs.Range.{inRange}
 use Rattle.head.specs.State.{noneBegun}
 use Rattle.head.specs.Flags.{scanned}
 use Rattle.head.specs.Apply.{after, actOf}
-use Rattle.head.specs.declared.state.Flags.{Flags}
+use Rattle.head.specs.declared.state.FlagBits.{FlagBits}
 use Rattle.head.specs.declared.state.Begun.{Begun}
 use Rattle.head.specs.declared.word.Act.{Act}
 use Rattle.head.specs.declared.word.Cause.the-variants.{Turn}
@@ -125,7 +125,7 @@ module _ (s : Head) (k b p : ℕ) (phase : p ≡ phaseOf s) (a : Bool) (grid : a
   way-ignored r e is = rw (← phase, ← grid, not-true a e) is
 
   module _ (applied : not a ≡ false) (t : Bool) (turn : t ≡ outOfTurn (s .begun .count) k) where
-    pub way-turn : (f : Flags) (n : Begun) (g : Head) → t ≡ true → f ≡ scanned (s .flags) → n ≡ noneBegun → g ≡ marked s f n
+    pub way-turn : (f : FlagBits) (n : Begun) (g : Head) → t ≡ true → f ≡ scanned (s .flags) → n ≡ noneBegun → g ≡ marked s f n
         → record { head = g; outcome = Ignored Turn } ≡ byGrid s k b
     unfolding byGrid
     way-turn f n g e flags none is = rw (is, none, flags, ← phase, ← grid, not-false a applied, ← turn, e)

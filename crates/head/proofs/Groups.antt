@@ -13,10 +13,10 @@ use lib.Dec.{T, leb, eqb, leb·zero, leb→le}
 use Rattle.words.specs.Kinds as kind
 use Rattle.head.specs.Flags.{oneOf, forVis, mirrorWord, forBoth, outOfRangeFlags, wordVis, scanned, wordBoth, wordIr}
 use Rattle.head.specs.Word.{outOfTurn}
-use Rattle.head.specs.declared.state.Flags.{Flags}
+use Rattle.head.specs.declared.state.FlagBits.{FlagBits}
 
 -- two tests that say the same
-same : (a b : Bool) → (a ≡ true → b ≡ true) → (b ≡ true → a ≡ true) → a ≡ b
+pub same : (a b : Bool) → (a ≡ true → b ≡ true) → (b ≡ true → a ≡ true) → a ≡ b
 same true true p q = refl
 same false false p q = refl
 same true false p q = sym (p refl)
@@ -81,7 +81,7 @@ module _ (k : ℕ) where
   both-by = rw (leb·zero k) at (interval 3 kind.nop k)
 
 -- the ways through the flags of a word that is out of range: b is the test that the code made
-module _ (k : ℕ) (f : Flags) where
+module _ (k : ℕ) (f : FlagBits) where
   pub way-vis : (leb kind.winX1 k && leb k kind.ccdLamp) ≡ true → wordVis f ≡ outOfRangeFlags k f
   unfolding outOfRangeFlags
   way-vis e = rw (← vis-by k, e)

@@ -22,7 +22,7 @@ pub record Marked (s t : Head) : Type 0 where
 
 module _ (s : Head) (w : ℕ) where
   marks : (c : Cause) (a : Answered) → Answer s w a → a .outcome ≡ Ignored c → Marked s (a .head)
-  marks c a (ignoring f g d q) e = record { settings = refl; latches = refl; work = refl; motion = refl; begun = q }
+  marks c a (ignoring f g d p q) e = record { settings = refl; latches = refl; work = refl; motion = refl; begun = q }
   marks c a (taking k b p) e = let z : _≡_ {A = ℕ} 0 1 = cc in absurd (omega arith)
 
   pub ignored-marks : (c : Cause) → answerOf s w .outcome ≡ Ignored c → Marked s (answerOf s w .head)
@@ -30,7 +30,7 @@ module _ (s : Head) (w : ℕ) where
 
   flags : (x : Act) (a : Answered) → Answer s w a → a .outcome ≡ Taken x → a .head .flags ≡ s .flags
   unfolding after
-  flags x a (ignoring f g d q) e = let z : _≡_ {A = ℕ} 0 1 = cc in absurd (omega arith)
+  flags x a (ignoring f g d p q) e = let z : _≡_ {A = ℕ} 0 1 = cc in absurd (omega arith)
   flags x a (taking k b p) e = refl
 
   pub taken-flags : (x : Act) → answerOf s w .outcome ≡ Taken x → answerOf s w .head .flags ≡ s .flags

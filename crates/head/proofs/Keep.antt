@@ -11,20 +11,19 @@ use Rattle.words.specs.Kinds as kind
 use Rattle.words.specs.Kinds.{rows, least, greatest, allowed, mostSteps}
 use Rattle.words.proofs.Codec.{decode-read}
 use Rattle.head.specs.Range.{inRange}
-use Rattle.head.specs.State.{noneBegun, noFlags}
+use Rattle.head.specs.State.{noneBegun, noFlags, noTask, acquisition, housekeeping}
+use Rattle.head.specs.Flags.{shown}
 use Rattle.head.specs.Limits.{mirrorTicks, coverStepTicks, hkTicks, lengthOf}
 use Rattle.head.specs.Apply.{after, settingsAfter, latchesAfter, workAfter, motionAfter, begunAfter}
 use Rattle.head.specs.Word.{answerOf}
-use Rattle.head.specs.Tick.{motionDown, moved, passed, tickOf, ticksOf}
+use Rattle.head.specs.Tick.{motionDown, moved, taskOf, passed, tickOf, ticksOf}
 use Rattle.head.specs.declared.state.Begun.{Begun}
-use Rattle.head.specs.declared.state.Task.{Task}
-use Rattle.head.specs.declared.state.Task.the-variants.{Idle, Acquisition, Housekeeping}
 use Rattle.head.specs.declared.state.Work.{Work}
 use Rattle.head.specs.declared.state.Head.{Head}
 use Rattle.head.specs.declared.tick.Due.the-variants.{Nothing, Blocks}
 use Rattle.head.specs.declared.tick.Ticked.{Ticked}
 use Rattle.head.specs.declared.word.Answered.{Answered}
-use Rattle.head.proofs.Bounds.{Bounds, RegisterBounds, LatchBounds, MotionBounds, BegunBounds, Working, bounds, in-range, allowed-least, allowed-most, allowed-steps, length-bounds, working-most}
+use Rattle.head.proofs.Bounds.{Bounds, RegisterBounds, LatchBounds, MotionBounds, BegunBounds, Working, idle, acquiring, requesting, bounds, in-range, allowed-least, allowed-most, allowed-steps, length-bounds, working-most}
 use Rattle.head.proofs.Answers.{Kept, same, dropped, Answer, ignoring, taking, answer}
 
 -- a choice between two numbers is bounded if each is where it is chosen
@@ -126,14 +125,16 @@ module _ (k b : ℕ) (fine : allowed k b ≡ true) where
       where
         either : Bool → Bool → Bool → Work
         either x y z =
-            cond x (record { task = Acquisition; busy = lengthOf (s .settings) })
-            (cond y (record { task = Housekeeping; busy = hkTicks })
-            (cond z (record { task = Idle; busy = 0 }) (s .work)))
+            cond x (record { task = acquisition; busy = lengthOf (s .settings) })
+            (cond y (record { task = housekeeping; busy = hkTicks })
+            (cond z (record { task = noTask; busy = 0 }) (s .work)))
 
         go : (x y z : Bool) → Working (either x y z .task) (either x y z .busy)
-        go true y z = let m = length-bounds (s .settings) (h .settings) in omega arith
-        go false true z = omega arith
-        go false false true = omega arith
+        go true y z =
+            let m = length-bounds (s .settings) (h .settings) in
+            acquiring (lengthOf (s .settings)) (omega arith) (omega arith)
+        go false true z = requesting hkTicks (omega arith) (omega arith)
+        go false false true = idle
         go false false false = h .work
 
     begun-keep : BegunBounds (begunAfter s k b)
@@ -162,6 +163,7 @@ module _ (k b : ℕ) (fine : allowed k b ≡ true) where
         record {
           settings = settings-keep;
           latches = latches-keep;
+          flags = h .flags;
           motion = motion-keep;
           begun = begun-keep;
           work = work-keep;
@@ -174,10 +176,11 @@ module _ (s : Head) (h : Bounds s) where
   kept-keep g dropped = omega arith
 
   answer-bounds : (w : ℕ) (a : Answered) → Answer s w a → Bounds (a .head)
-  answer-bounds w a (ignoring f g c q) =
+  answer-bounds w a (ignoring f g c p q) =
       record {
         settings = h .settings;
         latches = h .latches;
+        flags = p (h .flags);
         motion = h .motion;
         begun = kept-keep g q;
         work = h .work;
@@ -192,13 +195,13 @@ module _ (s : Head) (h : Bounds s) where
   unfolding passed
   passed-bounds = go (eqb (s .work .busy) 1) refl
     where
-      down : (t : Task) (n : ℕ) → (n ≡ 1 → ⊥) → Working t n → Working t (n - 1)
-      down Idle n e w = omega arith
-      down Acquisition n e w = omega arith
-      down Housekeeping n e w = omega arith
+      down : (t n : ℕ) → (n ≡ 1 → ⊥) → Working t n → Working t (n - 1)
+      down t n e idle = idle
+      down t n e (acquiring m p q) = acquiring (n - 1) (omega arith) (omega arith)
+      down t n e (requesting m p q) = requesting (n - 1) (omega arith) (omega arith)
 
       ended : Ticked
-      ended = record { head = moved s noFlags (record { task = Idle; busy = 0 }); due = Blocks (s .work .task) (s .flags) }
+      ended = record { head = moved s noFlags (record { task = noTask; busy = 0 }); due = Blocks (taskOf (s .work .task)) (shown (s .flags)) }
 
       going : Ticked
       going = record { head = moved s (s .flags) (record { task = s .work .task; busy = s .work .busy - 1 }); due = Nothing }
@@ -211,15 +214,17 @@ module _ (s : Head) (h : Bounds s) where
           record {
             settings = h .settings;
             latches = h .latches;
+            flags = omega arith;
             motion = slower;
             begun = h .begun;
-            work = refl;
+            work = idle;
             busy = omega arith;
           }
       go false e =
           record {
             settings = h .settings;
             latches = h .latches;
+            flags = h .flags;
             motion = slower;
             begun = h .begun;
             work = down (s .work .task) (s .work .busy) (eqb-false (s .work .busy) 1 e) (h .work);

@@ -1,5 +1,4 @@
 pub mod GridRule
-pub mod Places
 pub mod Groups
 pub mod Bounds
 pub mod Answers
@@ -8,6 +7,8 @@ pub mod Ignored
 pub mod Ticks
 pub mod Passing
 pub mod Findings
+pub mod RowRange
+pub mod RowSet
 pub mod Ways
 pub mod Numbered
 pub mod BusyTicks

@@ -10,10 +10,8 @@ use lib.Dec.{leb, ltb, eqb, leb·zero}
 use Rattle.head.specs.Range.{inRange}
 use Rattle.head.specs.Tick.{passed, tickOf, ticksOf}
 use Rattle.head.specs.Ticks.{endsWithin, workLeft, elapsed}
-use Rattle.head.specs.declared.state.Task.{Task}
-use Rattle.head.specs.declared.state.Task.the-variants.{Idle, Acquisition, Housekeeping}
 use Rattle.head.specs.declared.state.Head.{Head}
-use Rattle.head.proofs.Bounds.{Working, bounds}
+use Rattle.head.proofs.Bounds.{Working, idle, acquiring, requesting, bounds}
 use Rattle.head.proofs.Keep.{tick-keeps}
 use Rattle.head.proofs.Groups.{same-leb}
 
@@ -43,11 +41,11 @@ module _ (n : ℕ) (s : Head) where
           )
 
 -- a state in range, after no tick
-none-left : (t : Task) (b : ℕ) → Working t b → workLeft 0 (record { task = t; busy = b }) ≡ record { task = t; busy = b }
+none-left : (t b : ℕ) → Working t b → workLeft 0 (record { task = t; busy = b }) ≡ record { task = t; busy = b }
 unfolding workLeft
-none-left Idle b h = rw h
-none-left Acquisition b h = rw (lt-leb b 0 (h .0), sub-zero b)
-none-left Housekeeping b h = rw (lt-leb b 0 (h .0), sub-zero b)
+none-left t b idle = refl
+none-left t b (acquiring m p q) = rw (lt-leb b 0 p, sub-zero b)
+none-left t b (requesting m p q) = rw (lt-leb b 0 p, sub-zero b)
 
 at-once : (s : Head) → inRange s ≡ true → elapsed 0 s ≡ s
 unfolding elapsed endsWithin

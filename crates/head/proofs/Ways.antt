@@ -15,18 +15,19 @@ use Rattle.words.specs.declared.Decoded.{Decoded}
 use Rattle.words.specs.declared.Decoded.the-variants.{OutOfRange}
 use Rattle.head.specs.Limits.{lengthOf}
 use Rattle.head.specs.Range.{inRange}
-use Rattle.head.specs.State.{noFlags, noneBegun}
+use Rattle.head.specs.State.{noFlags, noneBegun, noTask, acquisition}
 use Rattle.head.specs.Grid.{busy}
-use Rattle.head.specs.Flags.{timeBoth, timeIr, wordBoth, mirrorWord, outOfRangeFlags}
+use Rattle.head.specs.Flags.{timeBoth, timeIr, wordBoth, mirrorWord, outOfRangeFlags, shown}
 use Rattle.head.specs.Apply.{after}
 use Rattle.head.specs.Word.{marked, onDecoded}
 use Rattle.head.specs.ByGrid.{isWord, waiting, byFinding}
-use Rattle.head.specs.Tick.{motionDown, moved, passed}
+use Rattle.head.specs.Tick.{motionDown, moved, taskOf, passed}
+use Rattle.head.specs.declared.state.FlagBits.{FlagBits}
 use Rattle.head.specs.declared.state.Flags.{Flags}
+use Rattle.head.specs.declared.state.Task.{Task}
 use Rattle.head.specs.declared.state.Begun.{Begun}
 use Rattle.head.specs.declared.state.Motion.{Motion}
 use Rattle.head.specs.declared.state.Work.{Work}
-use Rattle.head.specs.declared.state.Task.the-variants.{Idle, Acquisition}
 use Rattle.head.specs.declared.state.Head.{Head}
 use Rattle.head.specs.declared.word.Cause.the-variants.{Busy, CoverMoving, UnknownWord, Range}
 use Rattle.head.specs.declared.word.Outcome.the-variants.{Ignored}
@@ -36,7 +37,7 @@ use Rattle.head.proofs.Bounds.{bounds, length-bounds}
 use Rattle.head.proofs.Findings.{unknown}
 
 -- `kept_waiting`: p is the phase, f the flags that are set, h the state with them
-module _ (s h : Head) (f : Flags) where
+module _ (s h : Head) (f : FlagBits) where
   module _ (p : ℕ) where
     pub way-busy : p ≡ busy → f ≡ timeBoth (s .flags) → h ≡ marked s f (s .begun)
         → record { head = h; outcome = Ignored Busy } ≡ waiting s p
@@ -70,21 +71,21 @@ module _ (s : Head) (d : Decoded) where
     unfolding byFinding
     way-range r k e is = rw (le-ltb 0 (s .work .busy) idle, e) is
 
-    pub way-unknown : (h : Head) (f : Flags) → isWord d ≡ false → (tagOf the-type d ≡ 0) ⊎ (tagOf the-type d ≡ 1)
+    pub way-unknown : (h : Head) (f : FlagBits) → isWord d ≡ false → (tagOf the-type d ≡ 0) ⊎ (tagOf the-type d ≡ 1)
         → f ≡ wordBoth (s .flags) → h ≡ marked s f (s .begun) → record { head = h; outcome = Ignored UnknownWord } ≡ byFinding s d
     unfolding byFinding onDecoded
     way-unknown h f other tag flags is = rw (is, flags, le-ltb 0 (s .work .busy) idle, unknown d other tag)
 
 -- `ticked`: m is the motion that is left
-abbrev ticking : Head → Flags → Work → Motion → Head
+abbrev ticking : Head → FlagBits → Work → Motion → Head
 ticking s f w m =
     record { settings = s .settings; latches = s .latches; flags = f; work = w; motion = m; begun = s .begun }
 
 module _ (s : Head) (m : Motion) (motion : m ≡ motionDown (s .motion)) where
-  pub way-ended : s .work .busy ≡ 1 → (f : Flags) → f ≡ noFlags
-      → record { head = ticking s f (record { task = Idle; busy = 0 }) m; due = Blocks (s .work .task) (s .flags) } ≡ passed s
+  pub way-ended : s .work .busy ≡ 1 → (f : FlagBits) → f ≡ noFlags → (t : Task) → t ≡ taskOf (s .work .task) → (g : Flags) → g ≡ shown (s .flags)
+      → record { head = ticking s f (record { task = noTask; busy = 0 }) m; due = Blocks t g } ≡ passed s
   unfolding passed
-  way-ended e f none = rw (motion, none, eq-eqb (s .work .busy) 1 e)
+  way-ended e f none t ended g flags = rw (motion, none, ended, flags, eq-eqb (s .work .busy) 1 e)
 
   pub way-going : (s .work .busy ≡ 1 → ⊥) → (n : ℕ) → n ≡ s .work .busy - 1
       → record { head = ticking s (s .flags) (record { task = s .work .task; busy = n }) m; due = Nothing } ≡ passed s
@@ -97,7 +98,7 @@ as-kind s r k b j e is = rw e is
 
 -- `control`'s START: n is the length of the acquisition
 pub way-start : (s : Head) (k b n : ℕ) → k ≡ kind.start → n ≡ lengthOf (s .settings)
-    → ticking s (s .flags) (record { task = Acquisition; busy = n }) (s .motion) ≡ after s k b
+    → ticking s (s .flags) (record { task = acquisition; busy = n }) (s .motion) ≡ after s k b
 unfolding after
 way-start s k b n e is = rw (e, is)
 

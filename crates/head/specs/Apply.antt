@@ -6,13 +6,12 @@ use lib.Dec.{eqb}
 use Rattle.words.specs.Fields.{joined, direction, steps}
 use Rattle.words.specs.Kinds as kind
 use Rattle.head.specs.Limits.{mirrorTicks, coverStepTicks, hkTicks, lengthOf}
-use Rattle.head.specs.State.{noneBegun}
+use Rattle.head.specs.State.{noneBegun, noTask, acquisition, housekeeping}
 use Rattle.head.specs.declared.state.Settings.{Settings}
 use Rattle.head.specs.declared.state.Latches.{Latches}
 use Rattle.head.specs.declared.state.Motion.{Motion}
 use Rattle.head.specs.declared.state.Begun.{Begun}
 use Rattle.head.specs.declared.state.Work.{Work}
-use Rattle.head.specs.declared.state.Task.the-variants.{Idle, Acquisition, Housekeeping}
 use Rattle.head.specs.declared.state.Head.{Head}
 use Rattle.head.specs.declared.word.Act.{Act}
 use Rattle.head.specs.declared.word.Act.the-variants.{None, Exposure, Request, Cover}
@@ -56,9 +55,9 @@ latchesAfter s k b =
 -- START begins an acquisition, HK keeps the head busy, STOP sets busy to 0.
 unfoldable pub workAfter : Head → ℕ → Work
 workAfter s k =
-    cond (eqb k kind.start) (record { task = Acquisition; busy = lengthOf (s .settings) })
-    (cond (eqb k kind.hk) (record { task = Housekeeping; busy = hkTicks })
-    (cond (eqb k kind.stop) (record { task = Idle; busy = 0 }) (s .work)))
+    cond (eqb k kind.start) (record { task = acquisition; busy = lengthOf (s .settings) })
+    (cond (eqb k kind.hk) (record { task = housekeeping; busy = hkTicks })
+    (cond (eqb k kind.stop) (record { task = noTask; busy = 0 }) (s .work)))
 
 -- COS L, and SWITCH on (0), start mirror motion; COVER starts cover motion by its steps.
 unfoldable pub motionAfter : Head → ℕ → ℕ → Motion

@@ -1,5 +1,6 @@
 pub mod Limits
 pub mod State
+pub mod Row
 pub mod Busy
 pub mod Range
 pub mod Grid
@@ -7,6 +8,7 @@ pub mod Flags
 pub mod Apply
 pub mod Word
 pub mod ByGrid
+pub mod ByRow
 pub mod Tick
 pub mod Ticks
 pub mod Numbers

@@ -6,8 +6,10 @@ use mathlib.Core.Bool.{cond, not, _&&_}
 use lib.Dec.{eqb, ltb}
 use Rattle.words.specs.Kinds as kind
 use Rattle.words.specs.Kinds.{identifier, bitsOf, allowed, kindOf, kinds}
+use Rattle.head.specs.State.{noTask, acquisition, housekeeping}
 use Rattle.head.specs.Range.{inRange}
 use Rattle.head.specs.Word.{outOfTurn, stopWord}
+use Rattle.head.specs.Tick.{taskOf}
 use Rattle.head.specs.declared.state.Task.{Task}
 use Rattle.head.specs.declared.state.Task.the-variants.{Idle, Acquisition, Housekeeping}
 use Rattle.head.specs.declared.state.Head.{Head}
@@ -39,11 +41,11 @@ unfoldable pub outcomeNumber : Outcome → ℕ
 outcomeNumber (Taken a) = actNumber a
 outcomeNumber (Ignored c) = causeNumber c
 
--- The tasks; these numbers are ours, since the papers give none.
+-- The tasks, as a state holds them.
 unfoldable pub taskNumber : Task → ℕ
-taskNumber Idle = 0
-taskNumber Acquisition = 1
-taskNumber Housekeeping = 2
+taskNumber Idle = noTask
+taskNumber Acquisition = acquisition
+taskNumber Housekeeping = housekeeping
 
 -- A tick: 0 where nothing is due, the task that ended where blocks are due, 21 where the state is out of range.
 unfoldable pub dueNumber : Due → ℕ
@@ -68,4 +70,4 @@ answerNumber s w =
     (cond (outOfTurn (s .begun .count) k) 25 (takenNumber w))))))
 
 unfoldable pub tickNumber : Head → ℕ
-tickNumber s = cond (not (inRange s)) 21 (cond (eqb (s .work .busy) 1) (taskNumber (s .work .task)) 0)
+tickNumber s = cond (not (inRange s)) 21 (cond (eqb (s .work .busy) 1) (taskNumber (taskOf (s .work .task))) 0)

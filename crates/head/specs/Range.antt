@@ -8,12 +8,12 @@ use Rattle.words.specs.Fields.{joined, direction}
 use Rattle.words.specs.Kinds as kind
 use Rattle.words.specs.Kinds.{greatest, least, allowed, mostSteps}
 use Rattle.head.specs.Limits.{mirrorTicks, coverStepTicks, hkTicks, longest}
+use Rattle.head.specs.State.{noTask, acquisition, housekeeping}
 use Rattle.head.specs.declared.state.Settings.{Settings}
 use Rattle.head.specs.declared.state.Latches.{Latches}
+use Rattle.head.specs.declared.state.FlagBits.{FlagBits}
 use Rattle.head.specs.declared.state.Motion.{Motion}
 use Rattle.head.specs.declared.state.Begun.{Begun}
-use Rattle.head.specs.declared.state.Task.{Task}
-use Rattle.head.specs.declared.state.Task.the-variants.{Idle, Acquisition, Housekeeping}
 use Rattle.head.specs.declared.state.Head.{Head}
 
 -- Every test of the list holds, and those before it, a.
@@ -51,6 +51,16 @@ registerTests s =
 unfoldable pub latchTests : Latches → List Bool
 latchTests l = leb (l .vdetcom) (greatest kind.vdetcomM) ∷ leb (l .vdetadj) (greatest kind.vdetadjM) ∷ []
 
+-- A flag is set or not.
+unfoldable pub flagTests : FlagBits → List Bool
+flagTests f =
+    leb (f .irtime) 1
+    ∷ leb (f .irword) 1
+    ∷ leb (f .scan) 1
+    ∷ leb (f .vistime) 1
+    ∷ leb (f .visword) 1
+    ∷ []
+
 -- Mirror motion is at most 30, cover motion at most 2025.
 unfoldable pub motionTests : Motion → List Bool
 motionTests m = leb (m .mirror) mirrorTicks ∷ leb (m .cover) (coverStepTicks * mostSteps) ∷ []
@@ -69,15 +79,17 @@ begunTests b =
     ∷ []
 
 -- Busy is 0 with no task, 1-4238 with an acquisition or 1-3 with HK.
-unfoldable pub workInRange : Task → ℕ → Bool
-workInRange Idle n = eqb n 0
-workInRange Acquisition n = leb 1 n && leb n longest
-workInRange Housekeeping n = leb 1 n && leb n hkTicks
+unfoldable pub workInRange : ℕ → ℕ → Bool
+workInRange t n =
+    cond (eqb t noTask) (eqb n 0)
+    (cond (eqb t acquisition) (leb 1 n && leb n longest)
+    (eqb t housekeeping && (leb 1 n && leb n hkTicks)))
 
 unfoldable pub inRange : Head → Bool
 inRange s =
     allPass true (registerTests (s .settings))
     && allPass true (latchTests (s .latches))
+    && allPass true (flagTests (s .flags))
     && allPass true (motionTests (s .motion))
     && allPass true (begunTests (s .begun))
     && workInRange (s .work .task) (s .work .busy)

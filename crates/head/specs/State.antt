@@ -1,14 +1,23 @@
--- Document 01, "The head": the power-on state.
+-- Document 01, "The head": the power-on state, and the numbers that a state holds for a flag and a task.
 -- Assumes nothing.
-use mathlib.Core.Bool.{false}
+use Prim.Native.Nat.{ℕ}
 use Rattle.head.specs.declared.state.Head.{Head}
-use Rattle.head.specs.declared.state.Flags.{Flags}
+use Rattle.head.specs.declared.state.FlagBits.{FlagBits}
 use Rattle.head.specs.declared.state.Begun.{Begun}
-use Rattle.head.specs.declared.state.Task.the-variants.{Idle}
 
--- No flags.
-abbrev pub noFlags : Flags
-noFlags = record { irtime = false; irword = false; scan = false; vistime = false; visword = false }
+-- The tasks in a state; these numbers are ours, since the papers give none.
+abbrev pub noTask : ℕ
+noTask = 0
+
+abbrev pub acquisition : ℕ
+acquisition = 1
+
+abbrev pub housekeeping : ℕ
+housekeeping = 2
+
+-- A flag in a state is 1 where it is set and 0 where it is not. No flags.
+abbrev pub noFlags : FlagBits
+noFlags = record { irtime = 0; irword = 0; scan = 0; vistime = 0; visword = 0 }
 
 -- No mirror set begun.
 abbrev pub noneBegun : Begun
@@ -42,7 +51,7 @@ powerOn =
           };
       latches = record { vdetcom = 9; vdetadj = 8 };
       flags = noFlags;
-      work = record { task = Idle; busy = 0 };
+      work = record { task = noTask; busy = 0 };
       motion = record { mirror = 0; cover = 0 };
       begun = noneBegun;
     }

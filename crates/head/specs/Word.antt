@@ -11,7 +11,7 @@ use Rattle.head.specs.Range.{inRange}
 use Rattle.head.specs.State.{noneBegun}
 use Rattle.head.specs.Flags.{timeBoth, timeIr, wordBoth, scanned, mirrorWord, outOfRangeFlags}
 use Rattle.head.specs.Apply.{after, actOf}
-use Rattle.head.specs.declared.state.Flags.{Flags}
+use Rattle.head.specs.declared.state.FlagBits.{FlagBits}
 use Rattle.head.specs.declared.state.Begun.{Begun}
 use Rattle.head.specs.declared.state.Head.{Head}
 use Rattle.head.specs.declared.word.Cause.{Cause}
@@ -20,11 +20,11 @@ use Rattle.head.specs.declared.word.Outcome.the-variants.{Taken, Ignored
 use Rattle.head.specs.declared.word.Answered.{Answered}
 
 -- The state with other flags and another begun set: all that an ignored word may change.
-abbrev pub marked : Head → Flags → Begun → Head
+abbrev pub marked : Head → FlagBits → Begun → Head
 marked s f g =
     record { settings = s .settings; latches = s .latches; flags = f; work = s .work; motion = s .motion; begun = g }
 
-abbrev pub ignored : Head → Flags → Begun → Cause → Answered
+abbrev pub ignored : Head → FlagBits → Begun → Cause → Answered
 ignored s f g c = record { head = marked s f g; outcome = Ignored c }
 
 -- After so many words of a set: SIN L is in turn after one, COS M after two, COS L after three. SIN M is never out of turn.

@@ -4,22 +4,10 @@ use crate::state::Head;
 use crate::state::Latches;
 use crate::state::Motion;
 use crate::state::Settings;
-use crate::state::Task;
 use crate::state::Work;
-use words::kinds::ANNEALING;
-use words::kinds::CCD_DELAY;
-use words::kinds::CCD_EXPO;
-use words::kinds::CCD_LAMP;
 use words::kinds::COS_L;
 use words::kinds::COS_M;
-use words::kinds::COVER;
 use words::kinds::HK;
-use words::kinds::IR_DELAY;
-use words::kinds::IR_DETECTOR;
-use words::kinds::IR_EXPO;
-use words::kinds::IR_LAMP;
-use words::kinds::IR_WIN_MODE;
-use words::kinds::SHUTTER;
 use words::kinds::SIN_L;
 use words::kinds::SIN_M;
 use words::kinds::START;
@@ -29,17 +17,16 @@ use words::kinds::VDETADJ_L;
 use words::kinds::VDETADJ_M;
 use words::kinds::VDETCOM_L;
 use words::kinds::VDETCOM_M;
-use words::kinds::WIN_X1;
-use words::kinds::WIN_X2;
-use words::kinds::WIN_Y1;
-use words::kinds::WIN_Y2;
 ghost use mathlib.Core.Path.{_≡_};
-ghost use mathlib.Core.Bool.{true};
+ghost use mathlib.Core.Bool.{true, false, _&&_};
+ghost use lib.Dec.{leb};
 ghost use Prim.Native.Nat.{ℕ, _+_, _*_, _≤_, _<_, max};
-ghost use Rattle.words.specs.Kinds.{stop, irDetector, irWinMode, vdetcomM, vdetadjL, irDelay, irExpo, winX1, ccdLamp, irLamp, annealing, sinM, cosL, switch, cover};
+ghost use Rattle.words.specs.Kinds.{stop, vdetcomM, vdetadjL, sinM, cosL, switch, cover};
 ghost use Rattle.head.specs.Limits.{stepTicks, readoutOf, lengthBy, lengthOf};
 ghost use Rattle.head.specs.Range.{inRange};
 ghost use Rattle.head.specs.Apply.{after};
+ghost use Rattle.head.specs.Row.{places};
+ghost use Rattle.head.specs.ByRow.{placeOf};
 
 // The ticks of the IR readout in a window mode.
 fn readout(mode: u16) -> u16
@@ -89,6 +76,46 @@ impl Settings {
     }
 }
 
+// The place in a state's row of the register that a word sets, by its kind; 35 for a kind that sets none, or does more.
+const PLACE: [u8; 28] = [
+    35, // NOP
+    35, // START
+    35, // HK
+    35, // STOP
+    0, // IR DETECTOR
+    1, // IR WIN MODE
+    35, // VDETCOM M
+    35, // VDETCOM L
+    35, // VDETADJ M
+    35, // VDETADJ L
+    4, // IR DELAY
+    5, // IR EXPO
+    8, // WIN X1
+    9, // WIN Y1
+    10, // WIN X2
+    11, // WIN Y2
+    6, // CCD DELAY
+    7, // CCD EXPO
+    12, // CCD LAMP
+    13, // IR LAMP
+    14, // SHUTTER
+    15, // ANNEALING
+    35, // SIN M
+    35, // SIN L
+    35, // COS M
+    35, // COS L
+    35, // SWITCH
+    35, // COVER
+];
+
+fn place_of(kind: u8) -> u8
+    requires { ⌜ stop < kind ⌝ ∗ ⌜ kind < sinM ⌝ ∗ ⌜ (leb vdetcomM kind && leb kind vdetadjL) ≡ false ⌝ }
+    ensures { λ r. ⌜ r ≡ placeOf kind ⌝ }
+    ensures { λ r. ⌜ r < places ⌝ }
+{
+    PLACE[kind as usize]
+}
+
 impl Head {
     // START begins an acquisition, HK keeps the head busy, STOP makes it idle, NOP does nothing.
     fn control(mut self, kind: u8) -> Head
@@ -100,7 +127,7 @@ impl Head {
                 let ticks = self.settings.acquisition_ticks();
                 let busy = ticks as u16;
                 let work = Work {
-                    task: Task::Acquisition,
+                    task: Head::ACQUISITION,
                     busy,
                 };
                 self.work = work;
@@ -108,7 +135,7 @@ impl Head {
             }
             HK => {
                 let work = Work {
-                    task: Task::Housekeeping,
+                    task: Head::HOUSEKEEPING,
                     busy: Head::HK_TICKS,
                 };
                 self.work = work;
@@ -116,7 +143,7 @@ impl Head {
             }
             STOP => {
                 let work = Work {
-                    task: Task::Idle,
+                    task: Head::NO_TASK,
                     busy: 0,
                 };
                 self.work = work;
@@ -124,19 +151,6 @@ impl Head {
             }
             _ => self,
         }
-    }
-
-    // IR DETECTOR and IR WIN MODE.
-    fn ir_window(mut self, kind: u8, bits: u16) -> Head
-        requires { ⌜ irDetector ≤ kind ⌝ ∗ ⌜ kind ≤ irWinMode ⌝ }
-        ensures { λ r. ⌜ r ≡ after self kind bits ⌝ }
-    {
-        if kind == IR_DETECTOR {
-            self.settings.detector = bits;
-            return self;
-        }
-        self.settings.mode = bits;
-        self
     }
 
     // An M word fills a latch, an L word sets the register.
@@ -166,75 +180,15 @@ impl Head {
         }
     }
 
-    // IR DELAY and IR EXPO.
-    fn ir_times(mut self, kind: u8, bits: u16) -> Head
-        requires { ⌜ irDelay ≤ kind ⌝ ∗ ⌜ kind ≤ irExpo ⌝ }
+    // A word that sets the register of its name and nothing else.
+    fn set(self, kind: u8, bits: u16) -> Head
+        requires { ⌜ stop < kind ⌝ ∗ ⌜ kind < sinM ⌝ ∗ ⌜ (leb vdetcomM kind && leb kind vdetadjL) ≡ false ⌝ }
         ensures { λ r. ⌜ r ≡ after self kind bits ⌝ }
     {
-        if kind == IR_DELAY {
-            self.settings.irdelay = bits;
-            return self;
-        }
-        self.settings.irexpo = bits;
-        self
-    }
-
-    // The CCD's window, times and lamp.
-    fn ccd(mut self, kind: u8, bits: u16) -> Head
-        requires { ⌜ winX1 ≤ kind ⌝ ∗ ⌜ kind ≤ ccdLamp ⌝ }
-        ensures { λ r. ⌜ r ≡ after self kind bits ⌝ }
-    {
-        match kind {
-            WIN_X1 => {
-                self.settings.x1 = bits;
-                self
-            }
-            WIN_Y1 => {
-                self.settings.y1 = bits;
-                self
-            }
-            WIN_X2 => {
-                self.settings.x2 = bits;
-                self
-            }
-            WIN_Y2 => {
-                self.settings.y2 = bits;
-                self
-            }
-            CCD_DELAY => {
-                self.settings.ccddelay = bits;
-                self
-            }
-            CCD_EXPO => {
-                self.settings.ccdexpo = bits;
-                self
-            }
-            _ => {
-                self.settings.ccdlamp = bits;
-                self
-            }
-        }
-    }
-
-    // IR LAMP, SHUTTER and ANNEALING.
-    fn ir_currents(mut self, kind: u8, bits: u16) -> Head
-        requires { ⌜ irLamp ≤ kind ⌝ ∗ ⌜ kind ≤ annealing ⌝ }
-        ensures { λ r. ⌜ r ≡ after self kind bits ⌝ }
-    {
-        match kind {
-            IR_LAMP => {
-                self.settings.irlamp = bits;
-                self
-            }
-            SHUTTER => {
-                self.settings.shutter = bits;
-                self
-            }
-            _ => {
-                self.settings.annealing = bits;
-                self
-            }
-        }
+        let mut row = self.numbers();
+        let at = place_of(kind);
+        row[at as usize] = bits;
+        Head::of(row)
     }
 
     // A mirror word in turn; the pair changes at COS L.
@@ -322,6 +276,20 @@ impl Head {
         self
     }
 
+    // A word of the mirror or the cover.
+    fn moved(self, kind: u8, bits: u16) -> Head
+        requires { ⌜ sinM ≤ kind ⌝ ∗ ⌜ kind < 28 ⌝ ∗ ⌜ bits < 1024 ⌝ ∗ ⌜ inRange self ≡ true ⌝ }
+        ensures { λ r. ⌜ r ≡ after self kind bits ⌝ }
+    {
+        if kind <= COS_L {
+            return self.mirror(kind, bits);
+        }
+        if kind == SWITCH {
+            return self.motor(bits);
+        }
+        self.cover(bits)
+    }
+
     // The state after a word of this kind with these data, which are allowed.
     pub(crate) fn applied(self, kind: u8, bits: u16) -> Head
         requires { ⌜ kind < 28 ⌝ ∗ ⌜ bits < 1024 ⌝ ∗ ⌜ inRange self ≡ true ⌝ }
@@ -330,27 +298,13 @@ impl Head {
         if kind <= STOP {
             return self.control(kind);
         }
-        if kind <= IR_WIN_MODE {
-            return self.ir_window(kind, bits);
+        if SIN_M <= kind {
+            return self.moved(kind, bits);
         }
-        if kind <= VDETADJ_L {
+        let voltage = (VDETCOM_M <= kind) & (kind <= VDETADJ_L);
+        if voltage {
             return self.voltage(kind, bits);
         }
-        if kind <= IR_EXPO {
-            return self.ir_times(kind, bits);
-        }
-        if kind <= CCD_LAMP {
-            return self.ccd(kind, bits);
-        }
-        if kind <= ANNEALING {
-            return self.ir_currents(kind, bits);
-        }
-        if kind <= COS_L {
-            return self.mirror(kind, bits);
-        }
-        if kind == SWITCH {
-            return self.motor(bits);
-        }
-        self.cover(bits)
+        self.set(kind, bits)
     }
 }

@@ -6,6 +6,7 @@ pub mod grid;
 pub mod numbers;
 pub mod pass;
 pub mod range;
+pub mod row;
 pub mod state;
 pub mod tick;
 pub mod word;

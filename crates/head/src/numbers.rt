@@ -1,10 +1,12 @@
 // The numbers of the head's answers: document 01's causes, and request P1's number of a taken word.
+use crate::state::Head;
 use crate::state::Task;
 use crate::tick::Due;
 use crate::word::Act;
 use crate::word::Cause;
 use crate::word::Outcome;
 ghost use mathlib.Core.Path.{_≡_};
+ghost use Rattle.head.specs.Tick.{taskOf};
 ghost use Rattle.head.specs.Numbers.{actNumber, causeNumber, outcomeNumber, taskNumber, dueNumber};
 
 impl Act {
@@ -48,6 +50,17 @@ impl Outcome {
 }
 
 impl Task {
+    // The task of a number.
+    pub fn of(number: u16) -> Task
+        ensures { λ r. ⌜ r ≡ taskOf number ⌝ }
+    {
+        match number {
+            Head::NO_TASK => Task::Idle,
+            Head::ACQUISITION => Task::Acquisition,
+            _ => Task::Housekeeping,
+        }
+    }
+
     pub fn number(self) -> u8
         ensures { λ r. ⌜ r ≡ taskNumber self ⌝ }
     {

@@ -1,8 +1,7 @@
 // Many ticks in one step.
-use crate::state::Flags;
+use crate::state::FlagBits;
 use crate::state::Head;
 use crate::state::Motion;
-use crate::state::Task;
 use crate::state::Work;
 ghost use mathlib.Core.Path.{_≡_};
 ghost use Prim.Native.Nat.{_-_};
@@ -41,12 +40,12 @@ impl Head {
             return self;
         }
         let work = Work {
-            task: Task::Idle,
+            task: Head::NO_TASK,
             busy: 0,
         };
         self.work = work;
         if 0 < busy {
-            self.flags = Flags::none();
+            self.flags = FlagBits::none();
             return self;
         }
         self

@@ -1,81 +1,95 @@
-// Whether a state is in range.
-use crate::state::Begun;
+// Whether a state is in range, asked of the row of its numbers.
 use crate::state::Head;
-use crate::state::Latches;
-use crate::state::Motion;
-use crate::state::Settings;
-use crate::state::Task;
-use crate::state::Work;
 ghost use mathlib.Core.Path.{_≡_};
-ghost use mathlib.Core.Bool.{true};
-ghost use Rattle.head.specs.Range.{allPass, registerTests, latchTests, motionTests, begunTests, workInRange, inRange, place};
+ghost use mathlib.Core.Bool.{cond};
+ghost use Prim.Native.Nat.{_-_};
+ghost use Rattle.head.specs.Range.{inRange};
+ghost use Rattle.head.specs.ByRow.{most, atMost, received, lasting};
 
-impl Settings {
-    pub fn in_range(self) -> bool
-        ensures { λ r. ⌜ r ≡ allPass true (registerTests self) ⌝ }
-    {
-        (self.detector <= Head::MOST_BIT)
-            & (self.mode <= Head::MOST_BIT)
-            & (self.vdetcom <= Head::MOST_VOLTAGE)
-            & (self.vdetadj <= Head::MOST_VOLTAGE)
-            & (self.irdelay <= Head::MOST_TIME)
-            & (self.irexpo <= Head::MOST_TIME)
-            & (Head::LEAST_CCD_DELAY <= self.ccddelay)
-            & (self.ccddelay <= Head::MOST_TIME)
-            & (self.ccdexpo <= Head::MOST_TIME)
-            & (self.x1 <= Head::MOST_X)
-            & (self.y1 <= Head::MOST_Y)
-            & (self.x2 <= Head::MOST_X)
-            & (self.y2 <= Head::MOST_Y)
-            & (self.ccdlamp <= Head::MOST_CCD_LAMP)
-            & (self.irlamp <= Head::MOST_IR_LAMP)
-            & (self.shutter <= Head::MOST_SHUTTER)
-            & (self.annealing <= Head::MOST_ANNEALING)
-            & (self.sine <= Head::MOST_SINE)
-            & (self.cosine <= Head::MOST_COSINE)
-            & (self.switch <= Head::MOST_BIT)
-            & (self.direction <= Head::MOST_BIT)
-    }
+// How many numbers of a row have a limit of their own: all but the data of a begun set.
+const LIMITS: usize = 32;
+
+// The most of each.
+const MOST: [u16; 32] = [
+    Head::MOST_BIT, // detector
+    Head::MOST_BIT, // mode
+    Head::MOST_VOLTAGE, // vdetcom
+    Head::MOST_VOLTAGE, // vdetadj
+    Head::MOST_TIME, // irdelay
+    Head::MOST_TIME, // irexpo
+    Head::MOST_TIME, // ccddelay
+    Head::MOST_TIME, // ccdexpo
+    Head::MOST_X, // x1
+    Head::MOST_Y, // y1
+    Head::MOST_X, // x2
+    Head::MOST_Y, // y2
+    Head::MOST_CCD_LAMP, // ccdlamp
+    Head::MOST_IR_LAMP, // irlamp
+    Head::MOST_SHUTTER, // shutter
+    Head::MOST_ANNEALING, // annealing
+    Head::MOST_SINE, // sine
+    Head::MOST_COSINE, // cosine
+    Head::MOST_BIT, // switch
+    Head::MOST_BIT, // direction
+    Head::MOST_LATCH, // vdetcom latch
+    Head::MOST_LATCH, // vdetadj latch
+    Head::MOST_BIT, // irtime
+    Head::MOST_BIT, // irword
+    Head::MOST_BIT, // scan
+    Head::MOST_BIT, // vistime
+    Head::MOST_BIT, // visword
+    Head::HOUSEKEEPING, // task
+    Head::LONGEST, // busy
+    Head::MIRROR_TICKS, // mirror
+    Head::MOST_COVER_TICKS, // cover
+    Head::MOST_BEGUN, // count
+];
+
+// How far a number lies above its most; 0 where it does not.
+fn over(n: u16, most: u16) -> u16
+    ensures { λ r. ⌜ r ≡ n - most ⌝ }
+{
+    if most < n { n - most } else { 0 }
 }
 
-impl Latches {
-    pub fn in_range(self) -> bool
-        ensures { λ r. ⌜ r ≡ allPass true (latchTests self) ⌝ }
-    {
-        (self.vdetcom <= Head::MOST_LATCH) & (self.vdetadj <= Head::MOST_LATCH)
+// Whether no number of a row lies above its most. All that they lie above are joined, and compared once.
+fn within(row: [u16; 35]) -> bool
+    ensures { λ r. ⌜ r ≡ atMost row most ⌝ }
+{
+    let most = MOST;
+    let mut excess: u16 = 0;
+    let mut i: usize = 0;
+    while i < LIMITS {
+        excess = excess | over(row[i], most[i]);
+        i += 1;
     }
+    excess == 0
 }
 
-impl Motion {
-    pub fn in_range(self) -> bool
-        ensures { λ r. ⌜ r ≡ allPass true (motionTests self) ⌝ }
-    {
-        (self.mirror <= Head::MIRROR_TICKS) & (self.cover <= Head::MOST_COVER_TICKS)
-    }
+// The most of a place of a begun set: 0 before it is received.
+fn most_if(received: bool, most: u16) -> u16
+    ensures { λ r. ⌜ r ≡ cond received most 0 ⌝ }
+{
+    if received { most } else { 0 }
 }
 
-impl Begun {
-    pub fn in_range(self) -> bool
-        ensures { λ r. ⌜ r ≡ allPass true (begunTests self) ⌝ }
-    {
-        let first = ((1 <= self.count) & (self.sinm <= Head::MOST_SIN_M)) | (self.sinm == 0);
-        let second = ((2 <= self.count) & (self.sinl <= Head::MOST_SIN_L)) | (self.sinl == 0);
-        let third = ((3 <= self.count) & (self.cosm <= Head::MOST_COS_M)) | (self.cosm == 0);
-        (self.count <= Head::MOST_BEGUN) & first & second & third
-    }
+// Whether the data of a begun set of so many words are in range.
+fn is_received(count: u16, sinm: u16, sinl: u16, cosm: u16) -> bool
+    ensures { λ r. ⌜ r ≡ received count sinm sinl cosm ⌝ }
+{
+    (sinm <= most_if(1 <= count, Head::MOST_SIN_M))
+        & (sinl <= most_if(2 <= count, Head::MOST_SIN_L))
+        & (cosm <= most_if(3 <= count, Head::MOST_COS_M))
 }
 
-impl Work {
-    pub fn in_range(self) -> bool
-        ensures { λ r. ⌜ r ≡ workInRange (self .task) (self .busy) ⌝ }
-    {
-        let task = self.task;
-        let busy = self.busy;
-        match task {
-            Task::Idle => busy == 0,
-            Task::Acquisition => (1 <= busy) & (busy <= Head::LONGEST),
-            Task::Housekeeping => (1 <= busy) & (busy <= Head::HK_TICKS),
-        }
+// Whether a task may have so many ticks left.
+fn is_lasting(task: u16, busy: u16) -> bool
+    ensures { λ r. ⌜ r ≡ lasting task busy ⌝ }
+{
+    match task {
+        Head::NO_TASK => busy == 0,
+        Head::ACQUISITION => 1 <= busy,
+        _ => (1 <= busy) & (busy <= Head::HK_TICKS),
     }
 }
 
@@ -83,15 +97,10 @@ impl Head {
     pub fn in_range(self) -> bool
         ensures { λ r. ⌜ r ≡ inRange self ⌝ }
     {
-        let settings = self.settings;
-        let latches = self.latches;
-        let motion = self.motion;
-        let begun = self.begun;
-        let work = self.work;
-        settings.in_range()
-            & latches.in_range()
-            & motion.in_range()
-            & begun.in_range()
-            & work.in_range()
+        let row = self.numbers();
+        within(row)
+            & (Head::LEAST_CCD_DELAY <= row[6])
+            & is_received(row[31], row[32], row[33], row[34])
+            & is_lasting(row[27], row[28])
     }
 }

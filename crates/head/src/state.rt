@@ -36,7 +36,16 @@ pub struct Latches {
     pub vdetadj: u16,
 }
 
-// The error flags of the two channels.
+// The error flags of the two channels, as the state holds them: 1 where set, 0 where not.
+pub struct FlagBits {
+    pub irtime: u16,
+    pub irword: u16,
+    pub scan: u16,
+    pub vistime: u16,
+    pub visword: u16,
+}
+
+// The error flags as the blocks show them.
 pub struct Flags {
     pub irtime: bool,
     pub irword: bool,
@@ -51,9 +60,9 @@ pub enum Task {
     Housekeeping,
 }
 
-// What the head is doing, and for how many ticks yet.
+// What the head is doing, a task by its number, and for how many ticks yet.
 pub struct Work {
-    pub task: Task,
+    pub task: u16,
     pub busy: u16,
 }
 
@@ -74,10 +83,19 @@ pub struct Begun {
 pub struct Head {
     pub settings: Settings,
     pub latches: Latches,
-    pub flags: Flags,
+    pub flags: FlagBits,
     pub work: Work,
     pub motion: Motion,
     pub begun: Begun,
+}
+
+// The numbers of the tasks.
+impl Head {
+    pub const NO_TASK: u16 = 0;
+
+    pub const ACQUISITION: u16 = 1;
+
+    pub const HOUSEKEEPING: u16 = 2;
 }
 
 // The limits of a state in range.
@@ -174,15 +192,15 @@ impl Head {
                 vdetcom: 9,
                 vdetadj: 8,
             },
-            flags: Flags {
-                irtime: false,
-                irword: false,
-                scan: false,
-                vistime: false,
-                visword: false,
+            flags: FlagBits {
+                irtime: 0,
+                irword: 0,
+                scan: 0,
+                vistime: 0,
+                visword: 0,
             },
             work: Work {
-                task: Task::Idle,
+                task: Head::NO_TASK,
                 busy: 0,
             },
             motion: Motion {

@@ -1,4 +1,5 @@
 // A tick of 10 ms.
+use crate::state::FlagBits;
 use crate::state::Flags;
 use crate::state::Head;
 use crate::state::Motion;
@@ -6,7 +7,6 @@ use crate::state::Task;
 use crate::state::Work;
 ghost use mathlib.Core.Path.{_≡_};
 ghost use Prim.Native.Nat.{_-_};
-ghost use Rattle.head.specs.State.{noFlags};
 ghost use Rattle.head.specs.Numbers.{dueNumber, tickNumber};
 ghost use Rattle.head.specs.Tick.{motionDown, passed, tickOf};
 
@@ -27,20 +27,6 @@ fn down(n: u16) -> u16
     ensures { λ r. ⌜ r ≡ n - 1 ⌝ }
 {
     if n == 0 { 0 } else { n - 1 }
-}
-
-impl Flags {
-    pub fn none() -> Flags
-        ensures { λ r. ⌜ r ≡ noFlags ⌝ }
-    {
-        Flags {
-            irtime: false,
-            irword: false,
-            scan: false,
-            vistime: false,
-            visword: false,
-        }
-    }
 }
 
 impl Motion {
@@ -67,16 +53,21 @@ impl Head {
         self.motion = motion;
         if busy == 1 {
             let flags = self.flags;
-            let cleared = Flags::none();
+            let shown = flags.shown();
+            let ended = Task::of(task);
+            let cleared = FlagBits::none();
             let work = Work {
-                task: Task::Idle,
+                task: Head::NO_TASK,
                 busy: 0,
             };
             self.flags = cleared;
             self.work = work;
             return Ticked {
                 head: self,
-                due: Due::Blocks { ended: task, flags },
+                due: Due::Blocks {
+                    ended,
+                    flags: shown,
+                },
             };
         }
         let work = Work {

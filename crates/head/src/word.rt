@@ -2,7 +2,7 @@
 use crate::grid;
 use crate::grid::BUSY;
 use crate::state::Begun;
-use crate::state::Flags;
+use crate::state::FlagBits;
 use crate::state::Head;
 use words::Decoded;
 use words::kinds::COS_L;
@@ -104,7 +104,7 @@ impl Begun {
 
 impl Head {
     // The state with other flags and another begun set: all that an ignored word may change.
-    fn marked(mut self, flags: Flags, begun: Begun) -> Head
+    fn marked(mut self, flags: FlagBits, begun: Begun) -> Head
         ensures { λ r. ⌜ r ≡ marked self flags begun ⌝ }
     {
         self.flags = flags;

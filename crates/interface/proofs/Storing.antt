@@ -7,6 +7,8 @@ use native.Mathlib.Nat.{add-suc}
 use native.Mathlib.Numerals.{add-one}
 use native.Mathlib.Omega.{arith}
 use lib.ListN.{length, getD, drop, set, drop-of-length-le, length-append, length-drop}
+use Rattle.head.specs.Row.{places, numbersOf}
+use Rattle.head.specs.declared.state.Head.{Head}
 use lib.Seq.{drop-cons, sets, append-snoc, set-append-seam}
 
 -- a list by its n elements from place k on
@@ -48,6 +50,11 @@ sets-after (v ∷ vs) p (y ∷ ys) h =
 pub sets-whole : (after l vs ws : List ℕ) → after ≡ sets l 0 ws → ws ≡ vs → length vs ≡ length l → after ≡ vs
 sets-whole after l vs ws e is h =
     e ∙ rw is (sets-after vs [] l (omega arith) ∙ rw (drop-of-length-le l {i = length vs} (omega arith), append-nil vs))
+
+-- a state's numbers fill an array of as many places
+pub stored : (after l ws : List ℕ) (s : Head) → after ≡ sets l 0 ws → ws ≡ numbersOf s → length l ≡ places → after ≡ numbersOf s
+unfolding numbersOf
+stored after l ws s e is h = sets-whole after l (numbersOf s) ws e is (sym h)
 
 -- three groups one after another fill an array that has room for just these
 three : (l a b c : List ℕ) → length l ≡ length a + length b + length c

@@ -20,7 +20,8 @@ use Rattle.schedule.specs.Translate.{fit, scheduleOf, answerOfPlan, translateOf
 use Rattle.schedule.specs.declared.Translated.{Translated}
 use Rattle.schedule.specs.declared.Translated.the-variants.{Done, Refused, Short}
 use Rattle.schedule.proofs.Plans.{plan-count, plan-end}
-use Rattle.interface.specs.State.{stateOf, wellFormed}
+use Rattle.head.specs.Row.{stateOf}
+use Rattle.interface.specs.State.{wellFormed}
 use Rattle.interface.specs.Plans.{translatedOf, countIn, lastIn, packed, translatedAnswer, Small}
 
 differ : {A : Type 0} → _≡_ {A = ℕ} 0 1 → A

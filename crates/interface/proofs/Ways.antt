@@ -15,7 +15,8 @@ use Rattle.head.specs.declared.state.Head.{Head}
 use Rattle.head.specs.declared.word.Cause.the-variants.{State}
 use Rattle.head.specs.declared.word.Answered.{Answered}
 use Rattle.head.specs.declared.tick.Ticked.{Ticked}
-use Rattle.interface.specs.State.{places, numbersOf, stateOf, wellFormed, valid}
+use Rattle.head.specs.Row.{places, numbersOf, stateOf}
+use Rattle.interface.specs.State.{wellFormed, valid}
 use Rattle.interface.specs.Stepping.{powerOnAnswer, powerOnState, rangeAnswer, wordAnswer, wordState, dueAnswer, tickAnswer, tickState}
 use Rattle.interface.proofs.RoundTrip.{well-formed-length}
 

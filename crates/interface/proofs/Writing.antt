@@ -14,7 +14,8 @@ use Rattle.blocks.specs.Written.{writtenIf, writtenOf, bufferAfter}
 use Rattle.blocks.specs.declared.refusal.Refusal.the-variants.{Length, State}
 use Rattle.blocks.specs.declared.written.Written.{Written}
 use Rattle.blocks.specs.declared.written.Written.the-variants.{Refused}
-use Rattle.interface.specs.State.{stateOf, wellFormed, valid}
+use Rattle.head.specs.Row.{stateOf}
+use Rattle.interface.specs.State.{wellFormed, valid}
 use Rattle.interface.specs.Blocks.{blockWritten}
 
 module _ (n count : ℕ) (l readings old : List ℕ) where

@@ -24,7 +24,8 @@ use Rattle.blocks.specs.declared.ccd.CcdBits.{CcdBits}
 use Rattle.blocks.specs.declared.ccd.CcdMeaning.{CcdMeaning}
 use Rattle.blocks.specs.declared.ccd.CcdAnswer.{CcdAnswer}
 use Rattle.blocks.specs.declared.ccd.CcdAnswer.the-variants as ccd
-use Rattle.interface.specs.State.{bitOf, stateOf, valid}
+use Rattle.head.specs.Row.{stateOf}
+use Rattle.interface.specs.State.{bitOf, valid}
 
 -- A bit is read off a number as its lowest; bits above those named here say nothing.
 abbrev pub odd : ℕ → Bool

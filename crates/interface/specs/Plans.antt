@@ -6,7 +6,8 @@ use mathlib.Core.List.{List}
 use Rattle.schedule.specs.Translate.{translateOf, translatedNumber}
 use Rattle.schedule.specs.declared.Translated.{Translated}
 use Rattle.schedule.specs.declared.Translated.the-variants.{Done, Refused, Short}
-use Rattle.interface.specs.State.{stateOf, wellFormed}
+use Rattle.head.specs.Row.{stateOf}
+use Rattle.interface.specs.State.{wellFormed}
 
 -- Document 01's 1 stands for an array that is not well formed too. The buffers' lengths are a and b.
 unfoldable pub translatedOf : List ℕ → List ℕ → ℕ → ℕ → Translated

@@ -14,7 +14,8 @@ use Rattle.head.specs.declared.state.Flags.{Flags}
 use Rattle.head.specs.declared.word.Cause.the-variants.{State}
 use Rattle.head.specs.declared.tick.Due.{Due}
 use Rattle.head.specs.declared.tick.Due.the-variants.{Nothing, Blocks, Refused}
-use Rattle.interface.specs.State.{places, bitOf, numbersOf, stateOf, wellFormed, valid}
+use Rattle.head.specs.Row.{places, numbersOf, stateOf}
+use Rattle.interface.specs.State.{bitOf, wellFormed, valid}
 
 -- Document 01's number for a state outside its ranges.
 abbrev pub stateRefused : ℕ

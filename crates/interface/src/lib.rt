@@ -29,7 +29,7 @@ ghost use Rattle.blocks.specs.Written.{bufferAfter};
 ghost use Rattle.blocks.specs.Ir.{irWords, irReadings};
 ghost use Rattle.blocks.specs.Ccd.{ccdWords, ccdReadings};
 ghost use Rattle.interface.specs.Blocks.{blockWritten, irBlockFor, ccdBlockFor, irAnswer, irReadFor, irNumbersAfter, ccdAnswer, ccdReadFor, ccdNumbersAfter};
-ghost use Rattle.interface.specs.State.{stateOf};
+ghost use Rattle.head.specs.Row.{stateOf};
 ghost use Rattle.interface.specs.Plans.{translatedOf, translatedAnswer};
 ghost use Rattle.interface.specs.Stepping.{powerOnAnswer, powerOnState, rangeAnswer, wordAnswer, wordState, tickAnswer, tickState};
 ghost use Rattle.interface.specs.Codec.{decodedAnswer, encodedAnswer};

@@ -8,13 +8,12 @@ use native.Mathlib.Nat.{div-add-mod'}
 use native.Mathlib.Omega.{arith}
 use Rattle.words.specs.Fields.{direction, wave, sensors, steps, coverBits}
 use Rattle.head.specs.Range.{inRange}
-use Rattle.head.specs.State.{noFlags}
+use Rattle.head.specs.State.{noFlags, noTask}
 use Rattle.head.specs.Apply.{after, settingsAfter, latchesAfter, begunAfter, actOf}
 use Rattle.head.specs.Tick.{ticksOf}
 use Rattle.head.specs.declared.state.Settings.{Settings}
 use Rattle.head.specs.declared.state.Latches.{Latches}
 use Rattle.head.specs.declared.state.Begun.{Begun}
-use Rattle.head.specs.declared.state.Task.the-variants.{Idle}
 use Rattle.head.specs.declared.state.Head.{Head}
 use Rattle.head.proofs.Ticks.{ticks-settings, ticks-latches, ticks-begun}
 use Rattle.plan.specs.Reading.{Entry, settingsBy, entriesBy, settingsRead, logRead}
@@ -40,7 +39,7 @@ headWith x =
       settings = x .settings;
       latches = x .latches;
       flags = noFlags;
-      work = record { task = Idle; busy = 0 };
+      work = record { task = noTask; busy = 0 };
       motion = record { mirror = 0; cover = 0 };
       begun = x .begun;
     }

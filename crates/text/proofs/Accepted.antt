@@ -6,13 +6,12 @@ use mathlib.Core.List.{List}
 use Prim.Native.Nat.{ℕ, _≤_}
 use borrow.Author.Tests.{le-ltb}
 use lib.ListN.{length}
-use Rattle.words.specs.Kinds.{least, greatest}
 use Rattle.head.specs.State.{powerOn}
-use Rattle.head.specs.Range.{allPass, registerTests, latchTests, motionTests, place, begunTests, workInRange, inRange}
 use Rattle.plan.specs.Reading.{settingsRead, logRead}
 use Rattle.plan.specs.Stored.{orders, planOf}
 use Rattle.plan.specs.Words.{itemsOfAll}
 use Rattle.plan.specs.declared.order.Order.{Order}
+use Rattle.head.proofs.Bounds.{power-on-range}
 use Rattle.plan.proofs.Accepted.{accepted-fit}
 use Rattle.head.specs.Busy.{busyTicks, isBusy, atRest}
 use Rattle.schedule.specs.Schedule.{Schedule, scheduleFrom}
@@ -23,8 +22,8 @@ use Rattle.run.proofs.Equal.{compared-equal}
 use Rattle.text.specs.Sheet.{sheetOf, comparedText, sheetFor}
 
 on-fit : fit powerOn ≡ true
-unfolding fit busyTicks isBusy atRest inRange allPass registerTests latchTests motionTests place begunTests workInRange least greatest
-on-fit = refl
+unfolding fit busyTicks isBusy atRest
+on-fit = rw power-on-range
 
 module _ (bs : List ℕ) (os : List Order) (few : length bs ≤ 4096) (e : planOf bs ≡ orders os) where
   abbrev sch : Schedule

@@ -6,10 +6,10 @@ use mathlib.Core.List.{List, [], _∷_, _++_}
 use Rattle.words.specs.Kinds.{rows, kindFrom, kindOf, kinds, least, greatest, allowed}
 use Rattle.words.specs.Codec.{decodeOf, judged, wordOf}
 use Rattle.head.specs.Limits.{lengthOf, readoutOf}
-use Rattle.head.specs.Range.{allPass, registerTests, latchTests, motionTests, place, begunTests, workInRange, inRange}
+use Rattle.head.specs.Range.{allPass, registerTests, latchTests, flagTests, motionTests, place, begunTests, workInRange, inRange}
 use Rattle.head.specs.Apply.{after, actOf}
 use Rattle.head.specs.Word.{outOfTurn, onWord, onDecoded, answerOf}
-use Rattle.head.specs.Tick.{tickOf, ticksOf, passed}
+use Rattle.head.specs.Tick.{taskOf, tickOf, ticksOf, passed}
 use Rattle.plan.specs.Codes.{countOf, widthOf, known, lengthOf as orderLength, within, related, fieldsFit}
 use Rattle.plan.specs.Stored.{fieldAt, orderAt, faultAt, headerFault, ordersFrom, planOf}
 use Rattle.plan.specs.Words.{sineRegister, wordsOf, itemsOf, itemsOfAll}
@@ -38,8 +38,8 @@ pub example-listed : printedFor example ≡ ascii "tick word\n0 2011\n1 A000\n2 
 unfolding printedFor answerText listingOf headLine wordLines wordLine endLine ascii decimalOf decimalWithin hexOf hexDigit
     translateOf answerOfPlan fit scheduleOf scheduleFrom readied spanOf sent ready busyTicks isBusy atRest isTaken delayOf delayWithin
     planOf headerFault ordersFrom faultAt orderAt fieldAt countOf widthOf known orderLength fieldsFit within related
-    itemsOfAll itemsOf wordsOf sineRegister answerOf onDecoded onWord outOfTurn after actOf tickOf ticksOf passed
-    inRange allPass registerTests latchTests motionTests place begunTests workInRange lengthOf readoutOf
+    itemsOfAll itemsOf wordsOf sineRegister answerOf onDecoded onWord outOfTurn after actOf taskOf tickOf ticksOf passed
+    inRange allPass registerTests latchTests flagTests motionTests place begunTests workInRange lengthOf readoutOf
     decodeOf judged kindOf kindFrom kinds rows least greatest allowed wordOf
 example-listed = refl
 
@@ -60,7 +60,7 @@ unfolding sheetFor comparedText sheetOf actsHeadLine settingsLine endTimeLine eq
     momentsOf wordAt answered next headAfter logOf momentLog entriesOf entryOf timesOf
     translateOf answerOfPlan fit scheduleOf scheduleFrom readied spanOf sent ready busyTicks isBusy atRest isTaken delayOf delayWithin
     planOf headerFault ordersFrom faultAt orderAt fieldAt countOf widthOf known orderLength fieldsFit within related
-    itemsOfAll itemsOf wordsOf sineRegister answerOf onDecoded onWord outOfTurn after actOf tickOf ticksOf passed
-    inRange allPass registerTests latchTests motionTests place begunTests workInRange lengthOf readoutOf
+    itemsOfAll itemsOf wordsOf sineRegister answerOf onDecoded onWord outOfTurn after actOf taskOf tickOf ticksOf passed
+    inRange allPass registerTests latchTests flagTests motionTests place begunTests workInRange lengthOf readoutOf
     decodeOf judged kindOf kindFrom kinds rows least greatest allowed wordOf
 example-rehearsed = refl

@@ -1,9 +1,9 @@
--- `head::state::Flags::out_of_range` meets its contract: the tests that led to each return say which flags the kind sets.
+-- `head::state::FlagBits::out_of_range` meets its contract: the tests that led to each return say which flags the kind sets.
 -- Assumes nothing.
 use Rattle.head.proofs.Groups.{way-vis, way-scan, way-both, way-ir}
 use borrow.Author.Needs.{needs}
-use Rattle.head.proofs.state.Flags.out_of_range.Statement.{statement}
-use Rattle.head.proofs.state.Flags.out_of_range.Tie as tie
+use Rattle.head.proofs.state.FlagBits.out_of_range.Statement.{statement}
+use Rattle.head.proofs.state.FlagBits.out_of_range.Tie as tie
 
 returns : tie.Need-returns
 returns c = search (needs, way-vis)

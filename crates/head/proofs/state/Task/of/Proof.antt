@@ -1,9 +1,10 @@
--- `interface::state::task_of` meets its contract.
+-- `head::state::Task::of` meets its contract.
 -- Assumes nothing.
 use borrow.Author.Tests.{ne-eqb}
-use Rattle.interface.specs.State.{taskOf}
-use Rattle.interface.proofs.state.task_of.Statement.{statement}
-use Rattle.interface.proofs.state.task_of.Tie as tie
+use Rattle.head.specs.Tick.{taskOf}
+use borrow.Author.Needs.{needs}
+use Rattle.head.proofs.state.Task.of.Statement.{statement}
+use Rattle.head.proofs.state.Task.of.Tie as tie
 
 returns : tie.Need-returns
 unfolding taskOf
@@ -17,5 +18,5 @@ returns-3 : tie.Need-returns-3
 unfolding taskOf
 returns-3 c = simp (ne-eqb _ _ (c .match .rest .0 .1), ne-eqb _ _ (c .match .rest .1))
 
-pub task-of-spec : {M : Type 1} → statement M
-task-of-spec = tie.close (tie.spec returns returns-2 returns-3)
+pub of-spec : {M : Type 1} → statement M
+of-spec = tie.close (tie.spec returns returns-2 returns-3)
