@@ -6,8 +6,8 @@ use Prim.Native.Nat.{ℕ, _+_, _≤_, _<_}
 use native.Mathlib.Nat.{add-zero, add-suc}
 use native.Mathlib.Numerals.{add-one}
 use native.Mathlib.Omega.{arith}
-use lib.ListN.{length, getD, drop, set, length-set, length-append, drop-of-length-le}
-use lib.Seq.{sets, drop-cons, length-sets, length-take-le}
+use lib.ListN.{length, getD, take, drop, set, length-set, length-append, drop-of-length-le}
+use lib.Seq.{sets, drop-cons, length-sets, length-take-le, take-at}
 use Rattle.plan.proofs.Laid.{sets-append, sets-front}
 use Rattle.text.specs.Laid.{Laid, Front}
 
@@ -48,6 +48,14 @@ laid-front {old} {text} {n} {new} h fits =
       bytes = h .bytes ∙ sets-front text old (omega arith) ∙ ap (λ (k : ℕ). text ++ drop k old) (sym same);
       counts = (within, sym (length-take-le n new within));
     }
+
+-- it is what stands there
+pub front-text : {old text : List ℕ} {n : ℕ} {new : List ℕ} → Front old text n new → take n new ≡ text
+front-text {old} {text} {n} h = ap (take n) (h .bytes) ∙ take-at text (drop n old) n (sym (h .long))
+
+-- a text that was laid, under the name of the whole
+pub told : {whole l : List ℕ} {p : ℕ} {m text : List ℕ} → whole ≡ text → Laid l 0 text p m → p ≤ length l → Front l whole p m
+told is h fits = rw is (laid-front h fits)
 
 -- i of the bytes have been laid
 pub record Copying (old : List ℕ) (at : ℕ) (bytes new : List ℕ) (i : ℕ) : Type 0 where

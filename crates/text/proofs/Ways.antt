@@ -17,14 +17,8 @@ use Rattle.schedule.specs.Schedule.{Timed, Schedule}
 use Rattle.schedule.specs.Translate.{mostWords, fit, scheduleOf, answerOfPlan, translateOf, filled, tickList, wordList, translatedNumber, translatedPlace}
 use Rattle.schedule.specs.declared.Translated.{Translated}
 use Rattle.schedule.specs.declared.Translated.the-variants.{Done, Refused, Short}
-use Rattle.text.specs.Laid.{Laid, Front}
 use Rattle.text.specs.Lines.{refusalLine, tooLongLine}
 use Rattle.text.specs.Listing.{listingOf, answerText, printedFor}
-use Rattle.text.proofs.Laying.{laid-front}
-
--- a text that was laid, under the name of the whole
-pub told : {whole l : List ℕ} {p : ℕ} {m text : List ℕ} → whole ≡ text → Laid l 0 text p m → p ≤ length l → Front l whole p m
-told is h fits = rw is (laid-front h fits)
 
 -- a list done has as many words as the schedule, and they fit
 done-count : (sch : Schedule) (plan : Plan) (a b n e : ℕ) → answerOfPlan plan sch a b ≡ Done n e → (n ≡ length (sch .list)) × (n ≤ a)

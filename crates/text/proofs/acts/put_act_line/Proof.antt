@@ -4,6 +4,7 @@ use native.Mathlib.Omega.{arith}
 use Rattle.text.specs.Numbers.{ascii}
 use Rattle.text.specs.Acts.{actLine}
 use Rattle.text.proofs.Laying.{laid-then}
+use Rattle.text.proofs.Putting.{put-laid}
 use borrow.Author.Needs.{needs}
 use Rattle.text.proofs.acts.put_act_line.Statement.{statement}
 use Rattle.text.proofs.acts.put_act_line.Tie as tie
@@ -29,10 +30,10 @@ same-length c = search needs
 returns : tie.Need-returns
 unfolding actLine ascii
 returns c =
-    let number = c .before .before .before .before .before .before .before .before .before .before .before .before .before .before .before .put-decimal .ensures .0 in
+    let number = put-laid (c .before .before .before .before .before .before .before .before .before .before .before .before .before .before .before .put-decimal .ensures .0) (omega arith) in
     let tick = c .before .before .before .before .before .before .before .before .before .before .before .put-tick .ensures .0 in
     let entry = c .before .before .before .before .before .before .before .put-entry .ensures .0 in
-    (laid-then (laid-then (laid-then number tick) entry) (c .before .before .put-bytes .ensures), omega arith)
+    (laid-then (laid-then (laid-then number tick) entry) (put-laid (c .before .before .put-bytes .ensures) (omega arith)), omega arith)
 
 pub put-act-line-spec : {M : Type 1} → statement M
 put-act-line-spec =

@@ -4,6 +4,7 @@ use native.Mathlib.Omega.{arith}
 use Rattle.text.specs.Numbers.{ascii}
 use Rattle.text.specs.Acts.{coverText}
 use Rattle.text.proofs.Laying.{laid-then}
+use Rattle.text.proofs.Putting.{put-laid}
 use borrow.Author.Needs.{needs}
 use Rattle.text.proofs.acts.put_cover_move.Statement.{statement}
 use Rattle.text.proofs.acts.put_cover_move.Tie as tie
@@ -53,11 +54,12 @@ same-length c = search needs
 returns : tie.Need-returns
 unfolding coverText ascii
 returns c =
+    let unit = put-laid (c .before .before .put-bytes .ensures) (omega arith) in
     let direction = c .before .before .before .before .before .before .before .before .before .before .before .before .before .before .before .before .before .before .before .before .before .before .before .before .put-choice .ensures .0 in
     let wave = c .before .before .before .before .before .before .before .before .before .before .before .before .before .before .before .before .before .before .put-choice2 .ensures .0 in
     let sensors = c .before .before .before .before .before .before .before .before .before .before .before .before .put-choice3 .ensures .0 in
     let steps = c .before .before .before .before .before .before .before .put-register .ensures .0 in
-    (laid-then (laid-then (laid-then (laid-then direction wave) sensors) steps) (c .before .before .put-bytes .ensures), omega arith)
+    (laid-then (laid-then (laid-then (laid-then direction wave) sensors) steps) unit, omega arith)
 
 pub put-cover-move-spec : {M : Type 1} → statement M
 put-cover-move-spec =

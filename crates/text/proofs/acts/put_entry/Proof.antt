@@ -5,6 +5,7 @@ use denote.Ref.{now}
 use Rattle.text.specs.Numbers.{ascii}
 use Rattle.text.specs.Acts.{entryText}
 use Rattle.text.proofs.Rows.{is-exposure, is-request, is-cover-move}
+use Rattle.text.proofs.Putting.{put-laid}
 use borrow.Author.Needs.{needs}
 use Rattle.text.proofs.acts.put_entry.Statement.{statement}
 use Rattle.text.proofs.acts.put_entry.Tie as tie
@@ -32,7 +33,7 @@ same-length-2 c = search needs
 
 returns-2 : tie.Need-returns-2
 unfolding entryText ascii
-returns-2 c = (rw (is-request (now (c .before .before .before .before .before .before .before .before .before .before .args .row)) (c .before .before .before .before .before .if2 .taken)) (c .before .before .put-bytes .ensures), omega arith)
+returns-2 c = (rw (is-request (now (c .before .before .before .before .before .before .before .before .before .before .args .row)) (c .before .before .before .before .before .if2 .taken)) (put-laid (c .before .before .put-bytes .ensures) (omega arith)), omega arith)
 
 shared-slice-read-put-cover-move : tie.Need-shared-slice-read-put-cover-move
 shared-slice-read-put-cover-move c = search needs

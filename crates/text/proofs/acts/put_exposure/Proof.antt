@@ -4,6 +4,7 @@ use native.Mathlib.Omega.{arith}
 use Rattle.text.specs.Numbers.{ascii}
 use Rattle.text.specs.Acts.{entryText}
 use Rattle.text.proofs.Laying.{laid-then}
+use Rattle.text.proofs.Putting.{put-laid}
 use borrow.Author.Needs.{needs}
 use Rattle.text.proofs.acts.put_exposure.Statement.{statement}
 use Rattle.text.proofs.acts.put_exposure.Tie as tie
@@ -27,7 +28,7 @@ returns : tie.Need-returns
 unfolding entryText ascii
 returns c =
     let settings = rw (c .before .before .before .settings-of .ensures) at (c .before .before .put-settings .ensures .0) in
-    (laid-then (c .before .before .before .before .before .before .before .put-bytes .ensures) settings, omega arith)
+    (laid-then (put-laid (c .before .before .before .before .before .before .before .put-bytes .ensures) (omega arith)) settings, omega arith)
 
 pub put-exposure-spec : {M : Type 1} → statement M
 put-exposure-spec =

@@ -4,6 +4,7 @@ use native.Mathlib.Omega.{arith}
 use Rattle.text.specs.Numbers.{ascii}
 use Rattle.text.specs.Acts.{tickText}
 use Rattle.text.proofs.Laying.{laid-then}
+use Rattle.text.proofs.Putting.{put-laid}
 use borrow.Author.Needs.{needs}
 use Rattle.text.proofs.acts.put_tick.Statement.{statement}
 use Rattle.text.proofs.acts.put_tick.Tie as tie
@@ -29,8 +30,8 @@ same-length c = search needs
 returns : tie.Need-returns
 unfolding tickText ascii
 returns c =
-    let tick = c .before .before .before .before .before .before .before .before .before .before .before .put-named .ensures .0 in
-    let space = c .before .before .before .before .before .before .put-bytes .ensures in
+    let tick = put-laid (c .before .before .before .before .before .before .before .before .before .before .before .put-named .ensures .0) (omega arith) in
+    let space = put-laid (c .before .before .before .before .before .before .put-bytes .ensures) (omega arith) in
     (laid-then (laid-then tick space) (c .before .before .put-seconds .ensures .0), omega arith)
 
 pub put-tick-spec : {M : Type 1} → statement M

@@ -4,6 +4,7 @@ use native.Mathlib.Omega.{arith}
 use Rattle.text.specs.Numbers.{ascii}
 use Rattle.text.specs.Lines.{endLine}
 use Rattle.text.proofs.Laying.{laid-then}
+use Rattle.text.proofs.Putting.{put-laid}
 use borrow.Author.Needs.{needs}
 use Rattle.text.proofs.lines.put_end_line.Statement.{statement}
 use Rattle.text.proofs.lines.put_end_line.Tie as tie
@@ -26,8 +27,9 @@ same-length c = search needs
 returns : tie.Need-returns
 unfolding endLine ascii
 returns c =
-    let number = c .before .before .before .before .before .before .before .put-named .ensures .0 in
-    (laid-then number (c .before .before .put-bytes .ensures), omega arith)
+    let number = put-laid (c .before .before .before .before .before .before .before .put-named .ensures .0) (omega arith) in
+    let line = laid-then number (put-laid (c .before .before .put-bytes .ensures) (omega arith)) in
+    (line, omega arith)
 
 pub put-end-line-spec : {M : Type 1} → statement M
 put-end-line-spec =

@@ -4,6 +4,7 @@ use native.Mathlib.Omega.{arith}
 use Rattle.text.specs.Numbers.{ascii}
 use Rattle.text.specs.Lines.{refusalLine}
 use Rattle.text.proofs.Laying.{laid-then}
+use Rattle.text.proofs.Putting.{put-laid}
 use borrow.Author.Needs.{needs}
 use Rattle.text.proofs.lines.put_refusal_line.Statement.{statement}
 use Rattle.text.proofs.lines.put_refusal_line.Tie as tie
@@ -32,9 +33,9 @@ same-length c = search needs
 returns : tie.Need-returns
 unfolding refusalLine ascii
 returns c =
-    let number = c .before .before .before .before .before .before .before .before .before .before .before .before .put-named .ensures .0 in
-    let place = c .before .before .before .before .before .before .before .put-named2 .ensures .0 in
-    (laid-then (laid-then number place) (c .before .before .put-bytes .ensures), omega arith)
+    let number = put-laid (c .before .before .before .before .before .before .before .before .before .before .before .before .put-named .ensures .0) (omega arith) in
+    let place = put-laid (c .before .before .before .before .before .before .before .put-named2 .ensures .0) (omega arith) in
+    (laid-then (laid-then number place) (put-laid (c .before .before .put-bytes .ensures) (omega arith)), omega arith)
 
 pub put-refusal-line-spec : {M : Type 1} → statement M
 put-refusal-line-spec =

@@ -4,6 +4,7 @@ use native.Mathlib.Omega.{arith}
 use Rattle.text.specs.Numbers.{ascii}
 use Rattle.text.specs.Lines.{wordLine}
 use Rattle.text.proofs.Laying.{laid-then}
+use Rattle.text.proofs.Putting.{put-laid}
 use borrow.Author.Needs.{needs}
 use Rattle.text.proofs.lines.put_word_line.Statement.{statement}
 use Rattle.text.proofs.lines.put_word_line.Tie as tie
@@ -38,10 +39,10 @@ same-length c = search needs
 returns : tie.Need-returns
 unfolding wordLine ascii
 returns c =
-    let tick = c .before .before .before .before .before .before .before .before .before .before .before .before .before .before .before .before .before .before .put-decimal .ensures .0 in
-    let space = c .before .before .before .before .before .before .before .before .before .before .before .before .before .put-bytes .ensures in
-    let word = rw (c .before .before .before .before .before .before .before .before .before .hex4 .ensures) at (c .before .before .before .before .before .before .before .put-bytes2 .ensures) in
-    (laid-then (laid-then (laid-then tick space) word) (c .before .before .put-bytes3 .ensures), omega arith)
+    let tick = put-laid (c .before .before .before .before .before .before .before .before .before .before .before .before .before .before .before .before .before .before .put-decimal .ensures .0) (omega arith) in
+    let space = put-laid (c .before .before .before .before .before .before .before .before .before .before .before .before .before .put-bytes .ensures) (omega arith) in
+    let word = rw (c .before .before .before .before .before .before .before .before .before .hex4 .ensures) at (put-laid (c .before .before .before .before .before .before .before .put-bytes2 .ensures) (omega arith)) in
+    (laid-then (laid-then (laid-then tick space) word) (put-laid (c .before .before .put-bytes3 .ensures) (omega arith)), omega arith)
 
 pub put-word-line-spec : {M : Type 1} → statement M
 put-word-line-spec =

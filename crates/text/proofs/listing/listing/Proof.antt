@@ -9,7 +9,9 @@ use Rattle.head.specs.declared.state.Head.{Head}
 use Rattle.schedule.specs.declared.Translated.{Translated}
 use Rattle.text.specs.Numbers.{ascii}
 use Rattle.text.specs.Lines.{tooLongLine}
-use Rattle.text.proofs.Ways.{told, too-long, Answered, of-refused, of-done, done-few}
+use Rattle.text.proofs.Laying.{told}
+use Rattle.text.proofs.Putting.{put-laid}
+use Rattle.text.proofs.Ways.{too-long, Answered, of-refused, of-done, done-few}
 use borrow.Author.Needs.{needs}
 use Rattle.text.proofs.listing.listing.Statement.{statement}
 use Rattle.text.proofs.listing.listing.Tie as tie
@@ -27,7 +29,7 @@ answer t = t .before .before .translate .result
 answered : (t : tie.After-ticks2) → Answered (plan t) (head t) (answer t)
 answered t =
     record {
-      few = t .before .before .before .before .before .before .if1 .left;
+      few = let left = t .before .before .before .before .before .before .if1 .left in omega arith;
       on = t .before .before .before .before .before .power-on .ensures;
       is = t .before .before .translate .ensures .0;
     }
@@ -42,7 +44,7 @@ returns : tie.Need-returns
 unfolding tooLongLine ascii
 returns c =
     let plan = now (c .before .before .before .before .before .args .plan) in
-    let h = c .put-bytes .ensures in
+    let h = put-laid (c .put-bytes .ensures) (omega arith) in
     told (too-long plan (c .before .before .before .if1 .taken)) h (let e = h .place in omega arith)
 
 power-on-requires : tie.Need-power-on-requires

@@ -7,6 +7,7 @@ use Rattle.text.specs.Numbers.{ascii}
 use Rattle.text.specs.Lines.{headLine, wordLines}
 use Rattle.text.specs.Listing.{listingOf}
 use Rattle.text.proofs.Laying.{laid-then}
+use Rattle.text.proofs.Putting.{put-laid}
 use borrow.Author.Needs.{needs}
 use Rattle.text.proofs.listing.put_listing.Statement.{statement}
 use Rattle.text.proofs.listing.put_listing.Tie as tie
@@ -32,7 +33,7 @@ returns c =
     let a = c .before .before .before .before .before .before .before .before .before .before .before .before .before .before .before .before .args in
     let lines = wordLines (take (a .count) (now (a .ticks))) (take (a .count) (now (a .words))) in (
       laid-then
-          (laid-then {b = lines} (c .before .before .before .before .before .before .before .before .before .before .put-bytes .ensures) (c .before .before .before .before .before .before .put-word-lines .ensures .0))
+          (laid-then {b = lines} (put-laid (c .before .before .before .before .before .before .before .before .before .before .put-bytes .ensures) (omega arith)) (c .before .before .before .before .before .before .put-word-lines .ensures .0))
           (c .before .before .put-end-line .ensures .0),
       omega arith,
     )

@@ -1,68 +1,29 @@
--- `text::numbers::put_bytes` meets its contract. The loop's invariant: i of the bytes have been laid.
+-- `text::numbers::put_bytes` meets its contract: the bytes are laid where they have room.
 -- Assumes nothing.
-use Prim.Native.Nat.{_-_}
 use native.Mathlib.Omega.{arith}
-use lib.ListN.{length}
-use denote.Ref.{now}
-use Rattle.text.proofs.Laying.{Copying, copying-first, copying-next, copied}
+use borrow.Author.Needs.{needs}
+use Rattle.text.proofs.Putting.{put-none, laid-put}
 use Rattle.text.proofs.numbers.put_bytes.Statement.{statement}
 use Rattle.text.proofs.numbers.put_bytes.Tie as tie
 
-abbrev Inv-loop : tie.InvT-loop
-Inv-loop out₀ at bytes i₀ out i = Copying out₀ at bytes out i
+returns : tie.Need-returns
+returns c = put-none (omega arith)
 
-abbrev μ-loop : tie.MeasureT-loop
-μ-loop out₀ at bytes i₀ out i = length bytes - i
+sub-if2 : tie.Need-sub-if2
+sub-if2 c = search needs
 
-loop-holds : tie.Need-loop-holds Inv-loop μ-loop
-loop-holds c = copying-first (now (c .args .out)) (c .args .at) (now (c .args .bytes)) (c .pre)
+returns-2 : tie.Need-returns-2
+returns-2 c = put-none (omega arith)
 
-shared-slice-read-out : tie.Need-shared-slice-read-out Inv-loop μ-loop
-shared-slice-read-out c = omega arith
+lay-bytes-requires : tie.Need-lay-bytes-requires
+lay-bytes-requires c κs = search needs
 
-add-out : tie.Need-add-out Inv-loop μ-loop
-add-out c = omega arith
+same-length : tie.Need-same-length
+same-length c = search needs
 
-slice-write-out : tie.Need-slice-write-out Inv-loop μ-loop
-slice-write-out c = omega arith
-
-add-i : tie.Need-add-i Inv-loop μ-loop
-add-i c = omega arith
-
-loop-less : tie.Need-loop-less Inv-loop μ-loop
-loop-less c = omega arith
-
-loop-again : tie.Need-loop-again Inv-loop μ-loop
-loop-again c =
-    let a = c .before .before .before .args in
-    let at = c .before .before .loop in
-    copying-next (now (a .out)) (a .at) (now (a .bytes)) (at .out) (at .i) (at .inv) (omega arith)
-
-add-result : tie.Need-add-result Inv-loop μ-loop
-add-result c = omega arith
-
-same-length : tie.Need-same-length Inv-loop μ-loop
-same-length c = c .before .loop .inv .long
-
-returns : tie.Need-returns Inv-loop μ-loop
-returns c =
-    let a = c .before .before .args in
-    let at = c .before .loop in
-    copied (now (a .out)) (a .at) (now (a .bytes)) (at .out) (at .i) (at .inv) (omega arith)
+returns-3 : tie.Need-returns-3
+returns-3 c = laid-put (c .before .before .lay-bytes .ensures) (omega arith)
 
 pub put-bytes-spec : {M : Type 1} → statement M
 put-bytes-spec =
-    tie.close
-    (tie.spec
-    Inv-loop
-    μ-loop
-    loop-holds
-    shared-slice-read-out
-    add-out
-    slice-write-out
-    add-i
-    loop-less
-    loop-again
-    add-result
-    same-length
-    returns)
+    tie.close (tie.spec returns sub-if2 returns-2 lay-bytes-requires same-length returns-3)

@@ -4,6 +4,7 @@ use native.Mathlib.Omega.{arith}
 use Rattle.text.specs.Numbers.{ascii}
 use Rattle.text.specs.Settings.{mirrorText}
 use Rattle.text.proofs.Laying.{laid-then}
+use Rattle.text.proofs.Putting.{put-laid}
 use borrow.Author.Needs.{needs}
 use Rattle.text.proofs.settings.put_mirror.Statement.{statement}
 use Rattle.text.proofs.settings.put_mirror.Tie as tie
@@ -29,7 +30,7 @@ same-length c = search needs
 returns : tie.Need-returns
 unfolding mirrorText ascii
 returns c =
-    let name = c .before .before .before .before .before .before .before .before .before .before .before .put-bytes .ensures in
+    let name = put-laid (c .before .before .before .before .before .before .before .before .before .before .before .put-bytes .ensures) (omega arith) in
     let sine = c .before .before .before .before .before .before .before .put-sine .ensures .0 in
     (laid-then (laid-then name sine) (c .before .before .put-register .ensures .0), omega arith)
 

@@ -4,6 +4,7 @@ use native.Mathlib.Omega.{arith}
 use Rattle.text.specs.Numbers.{ascii}
 use Rattle.text.specs.Sheet.{endTimeLine}
 use Rattle.text.proofs.Laying.{laid-then}
+use Rattle.text.proofs.Putting.{put-laid}
 use borrow.Author.Needs.{needs}
 use Rattle.text.proofs.sheet.put_end_time.Statement.{statement}
 use Rattle.text.proofs.sheet.put_end_time.Tie as tie
@@ -35,10 +36,10 @@ same-length c = search needs
 returns : tie.Need-returns
 unfolding endTimeLine ascii
 returns c =
-    let ticks = c .before .before .before .before .before .before .before .before .before .before .before .before .before .before .before .before .put-named .ensures .0 in
-    let comma = c .before .before .before .before .before .before .before .before .before .before .before .put-bytes .ensures in
+    let ticks = put-laid (c .before .before .before .before .before .before .before .before .before .before .before .before .before .before .before .before .put-named .ensures .0) (omega arith) in
+    let comma = put-laid (c .before .before .before .before .before .before .before .before .before .before .before .put-bytes .ensures) (omega arith) in
     let seconds = c .before .before .before .before .before .before .before .put-seconds .ensures .0 in
-    (laid-then (laid-then (laid-then ticks comma) seconds) (c .before .before .put-bytes2 .ensures), omega arith)
+    (laid-then (laid-then (laid-then ticks comma) seconds) (put-laid (c .before .before .put-bytes2 .ensures) (omega arith)), omega arith)
 
 pub put-end-time-spec : {M : Type 1} → statement M
 put-end-time-spec =

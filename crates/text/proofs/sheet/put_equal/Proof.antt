@@ -4,6 +4,7 @@ use native.Mathlib.Omega.{arith}
 use Rattle.text.specs.Numbers.{ascii}
 use Rattle.text.specs.Sheet.{equalLine}
 use Rattle.text.proofs.Laying.{laid-then}
+use Rattle.text.proofs.Putting.{put-laid}
 use borrow.Author.Needs.{needs}
 use Rattle.text.proofs.sheet.put_equal.Statement.{statement}
 use Rattle.text.proofs.sheet.put_equal.Tie as tie
@@ -29,7 +30,7 @@ same-length c = search needs
 returns : tie.Need-returns
 unfolding equalLine ascii
 returns c =
-    let name = c .before .before .before .before .before .before .before .before .put-bytes .ensures in
+    let name = put-laid (c .before .before .before .before .before .before .before .before .put-bytes .ensures) (omega arith) in
     (laid-then name (c .before .before .put-choice .ensures .0), omega arith)
 
 pub put-equal-spec : {M : Type 1} → statement M

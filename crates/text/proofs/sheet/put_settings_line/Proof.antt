@@ -4,6 +4,7 @@ use native.Mathlib.Omega.{arith}
 use Rattle.text.specs.Numbers.{ascii}
 use Rattle.text.specs.Sheet.{settingsLine}
 use Rattle.text.proofs.Laying.{laid-then}
+use Rattle.text.proofs.Putting.{put-laid}
 use borrow.Author.Needs.{needs}
 use Rattle.text.proofs.sheet.put_settings_line.Statement.{statement}
 use Rattle.text.proofs.sheet.put_settings_line.Tie as tie
@@ -33,7 +34,7 @@ returns : tie.Need-returns
 unfolding settingsLine ascii
 returns c =
     let settings = rw (c .before .before .before .before .before .before .before .before .settings-of .ensures) at (c .before .before .before .before .before .before .before .put-settings .ensures .0) in
-    (laid-then (laid-then (c .before .before .before .before .before .before .before .before .before .before .before .before .put-bytes .ensures) settings) (c .before .before .put-bytes2 .ensures), omega arith)
+    (laid-then (laid-then (put-laid (c .before .before .before .before .before .before .before .before .before .before .before .before .put-bytes .ensures) (omega arith)) settings) (put-laid (c .before .before .put-bytes2 .ensures) (omega arith)), omega arith)
 
 pub put-settings-line-spec : {M : Type 1} → statement M
 put-settings-line-spec =

@@ -9,6 +9,7 @@ use Rattle.text.specs.Acts.{actLines}
 use Rattle.text.specs.Read.{entriesIn}
 use Rattle.text.proofs.Rows.{part-row}
 use Rattle.text.proofs.Laying.{laid-then}
+use Rattle.text.proofs.Putting.{put-laid}
 use borrow.Author.Needs.{needs}
 use Rattle.text.proofs.sheet.put_sheet.Statement.{statement}
 use Rattle.text.proofs.sheet.put_sheet.Tie as tie
@@ -60,7 +61,7 @@ returns c =
     let settings = rw (part-row (now (a .rows)) (a .acts)) at (c .before .before .before .before .before .before .before .before .before .before .put-settings-line .ensures .0) in
     let end = c .before .before .before .before .before .before .put-end-time .ensures .0 in (
       laid-then
-          (laid-then (laid-then (laid-then {b = acts} (c .before .before .before .before .before .before .before .before .before .before .before .before .before .before .before .before .before .before .before .put-bytes .ensures) (c .before .before .before .before .before .before .before .before .before .before .before .before .before .before .before .put-act-lines .ensures .0)) settings) end)
+          (laid-then (laid-then (laid-then {b = acts} (put-laid (c .before .before .before .before .before .before .before .before .before .before .before .before .before .before .before .before .before .before .before .put-bytes .ensures) (omega arith)) (c .before .before .before .before .before .before .before .before .before .before .before .before .before .before .before .put-act-lines .ensures .0)) settings) end)
           (c .before .before .put-equal .ensures .0),
       omega arith,
     )

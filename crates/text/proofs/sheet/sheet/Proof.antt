@@ -9,8 +9,9 @@ use Rattle.head.specs.declared.state.Head.{Head}
 use Rattle.run.specs.declared.compare.Compared.{Compared}
 use Rattle.text.specs.Numbers.{ascii}
 use Rattle.text.specs.Lines.{tooLongLine}
-use Rattle.text.proofs.Ways.{told}
+use Rattle.text.proofs.Laying.{told}
 use Rattle.text.proofs.Sheets.{sheet-too-long, Answered, sheet-refused, sheet-done, acts-few, rows-kept, times-kept}
+use Rattle.text.proofs.Putting.{put-laid}
 use borrow.Author.Needs.{needs}
 use Rattle.text.proofs.sheet.sheet.Statement.{statement}
 use Rattle.text.proofs.sheet.sheet.Tie as tie
@@ -43,7 +44,7 @@ returns : tie.Need-returns
 unfolding tooLongLine ascii
 returns c =
     let plan = now (c .before .before .before .before .before .args .plan) in
-    let h = c .put-bytes .ensures in
+    let h = put-laid (c .put-bytes .ensures) (omega arith) in
     told (sheet-too-long plan (c .before .before .before .if1 .taken)) h (let e = h .place in omega arith)
 
 power-on-requires : tie.Need-power-on-requires

@@ -4,6 +4,7 @@ use native.Mathlib.Omega.{arith}
 use Rattle.text.specs.Numbers.{ascii}
 use Rattle.text.specs.Values.{durationText}
 use Rattle.text.proofs.Laying.{laid-then}
+use Rattle.text.proofs.Putting.{put-laid}
 use borrow.Author.Needs.{needs}
 use Rattle.text.proofs.values.put_duration.Statement.{statement}
 use Rattle.text.proofs.values.put_duration.Tie as tie
@@ -30,7 +31,7 @@ returns : tie.Need-returns
 unfolding durationText ascii
 returns c =
     let seconds = c .before .before .before .before .before .before .before .put-seconds .ensures .0 in
-    (laid-then (laid-then (c .before .before .before .before .before .before .before .before .before .before .before .put-bytes .ensures) seconds) (c .before .before .put-bytes2 .ensures), omega arith)
+    (laid-then (laid-then (put-laid (c .before .before .before .before .before .before .before .before .before .before .before .put-bytes .ensures) (omega arith)) seconds) (put-laid (c .before .before .put-bytes2 .ensures) (omega arith)), omega arith)
 
 pub put-duration-spec : {M : Type 1} → statement M
 put-duration-spec =

@@ -3,6 +3,7 @@
 use native.Mathlib.Omega.{arith}
 use Rattle.text.specs.Values.{levelText}
 use Rattle.text.proofs.Laying.{laid-then}
+use Rattle.text.proofs.Putting.{put-laid}
 use borrow.Author.Needs.{needs}
 use Rattle.text.proofs.values.put_level.Statement.{statement}
 use Rattle.text.proofs.values.put_level.Tie as tie
@@ -21,7 +22,7 @@ same-length c = search needs
 
 returns : tie.Need-returns
 unfolding levelText
-returns c = (laid-then (c .before .before .before .before .before .before .put-choice .ensures .0) (c .before .before .put-decimal .ensures .0), omega arith)
+returns c = (laid-then (c .before .before .before .before .before .before .put-choice .ensures .0) (put-laid (c .before .before .put-decimal .ensures .0) (omega arith)), omega arith)
 
 pub put-level-spec : {M : Type 1} → statement M
 put-level-spec =

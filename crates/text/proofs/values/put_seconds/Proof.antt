@@ -4,6 +4,7 @@ use native.Mathlib.Omega.{arith}
 use Rattle.text.specs.Numbers.{ascii}
 use Rattle.text.specs.Values.{secondsOf}
 use Rattle.text.proofs.Laying.{laid-then}
+use Rattle.text.proofs.Putting.{put-laid}
 use borrow.Author.Needs.{needs}
 use Rattle.text.proofs.values.put_seconds.Statement.{statement}
 use Rattle.text.proofs.values.put_seconds.Tie as tie
@@ -34,7 +35,7 @@ same-length c = search needs
 
 returns : tie.Need-returns
 unfolding secondsOf ascii
-returns c = (laid-then (c .before .before .before .before .before .before .before .put-decimal .ensures .0) (c .before .before .put-bytes .ensures), omega arith)
+returns c = (laid-then (put-laid (c .before .before .before .before .before .before .before .put-decimal .ensures .0) (omega arith)) (put-laid (c .before .before .put-bytes .ensures) (omega arith)), omega arith)
 
 pub put-seconds-spec : {M : Type 1} → statement M
 put-seconds-spec =

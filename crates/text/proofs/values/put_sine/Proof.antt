@@ -4,6 +4,7 @@ use native.Mathlib.Omega.{arith}
 use Rattle.text.specs.Numbers.{ascii}
 use Rattle.text.specs.Values.{sineText}
 use Rattle.text.proofs.Laying.{laid-then}
+use Rattle.text.proofs.Putting.{put-laid}
 use borrow.Author.Needs.{needs}
 use Rattle.text.proofs.values.put_sine.Statement.{statement}
 use Rattle.text.proofs.values.put_sine.Tie as tie
@@ -28,7 +29,7 @@ same-length c = search needs
 
 returns : tie.Need-returns
 unfolding sineText ascii
-returns c = (laid-then (c .before .before .before .before .before .before .put-choice .ensures .0) (c .before .before .put-decimal .ensures .0), omega arith)
+returns c = (laid-then (c .before .before .before .before .before .before .put-choice .ensures .0) (put-laid (c .before .before .put-decimal .ensures .0) (omega arith)), omega arith)
 
 pub put-sine-spec : {M : Type 1} → statement M
 put-sine-spec =
