@@ -2,9 +2,9 @@
 // refused.
 use libc::STDIN_FILENO;
 use libc::STDOUT_FILENO;
+use report::sheet::LONGEST_SHEET;
+use report::sheet::sheet;
 use text::listing::MOST_INPUT;
-use text::sheet::LONGEST_SHEET;
-use text::sheet::sheet;
 
 fn main() {
     // One byte more than a plan may have tells whether the input is too long.

@@ -1,7 +1,7 @@
 // The sheets of two plans: one with every order, and one with an exposure on either side of a mirror move.
 use libc::STDOUT_FILENO;
-use text::sheet::LONGEST_SHEET;
-use text::sheet::sheet;
+use report::sheet::LONGEST_SHEET;
+use report::sheet::sheet;
 
 fn show(plan: &[u8]) {
     let mut out = [0u8; LONGEST_SHEET];

@@ -4,8 +4,3 @@ pub mod Putting
 pub mod Printing
 pub mod Ways
 pub mod Example
-pub mod Rows
-pub mod ActLines
-pub mod ReadBack
-pub mod Sheets
-pub mod Accepted

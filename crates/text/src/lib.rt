@@ -1,8 +1,4 @@
-// The texts that the programs print: a listing (document 01, "Examples"), and the sheet of a rehearsal.
-pub mod acts;
+// Bytes and numbers as text, and what the listing program prints (document 01, "Examples").
 pub mod lines;
 pub mod listing;
 pub mod numbers;
-pub mod settings;
-pub mod sheet;
-pub mod values;

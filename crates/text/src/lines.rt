@@ -60,7 +60,7 @@ pub(crate) fn put_refusal_line(out: &mut [u8], number: u8, place: usize) -> usiz
 
 // The line of a refusal by itself; the answer is its length.
 pub fn refusal_line(number: u8, place: usize, out: &mut [u8; 53]) -> usize
-    ensures { λ r. ⌜ Front (now (out .entry)) (refusalLine number place) r (now (out .exit)) ⌝ }
+    ensures { λ r. ⌜ Front (now (out .entry)) (refusalLine number place) r (now (out .exit)) ⌝ ∗ ⌜ r ≤ 53 ⌝ }
 {
     put_refusal_line(out, number, place)
 }

@@ -10,7 +10,7 @@ put-refusal-line-requires : tie.Need-put-refusal-line-requires
 put-refusal-line-requires c κs = search needs
 
 returns : tie.Need-returns
-returns c = laid-front (c .put-refusal-line .ensures .0) (omega arith)
+returns c = (laid-front (c .put-refusal-line .ensures .0) (omega arith), omega arith)
 
 pub refusal-line-spec : {M : Type 1} → statement M
 refusal-line-spec = tie.close (tie.spec put-refusal-line-requires returns)
