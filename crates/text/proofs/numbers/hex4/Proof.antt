@@ -19,7 +19,7 @@ hex-digit-requires-4 c κs = search needs
 
 returns : tie.Need-returns
 unfolding hexOf
-returns c = cc
+returns c = rw (c .before .before .before .hex-digit .ensures, c .before .before .hex-digit2 .ensures, c .before .hex-digit3 .ensures, c .hex-digit4 .ensures)
 
 pub hex4-spec : {M : Type 1} → statement M
 hex4-spec =
