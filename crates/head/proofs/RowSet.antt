@@ -1,4 +1,4 @@
--- A register set through the row of a state's numbers: the place of its kind is that of the register of its name.
+-- A register set through the row of registers: the place of its kind is that of the register of its name.
 -- Assumes nothing.
 use mathlib.Core.Path.{_≡_, refl, sym, subst, _∙_}
 use mathlib.Core.Bool.{Bool, true, false, _&&_}
@@ -12,8 +12,9 @@ use lib.ListN.{set}
 use Rattle.words.specs.Kinds as kind
 use Rattle.words.proofs.Tests.{and-left, and-right}
 use Rattle.head.specs.Apply.{after}
-use Rattle.head.specs.Row.{places, numbersOf, stateOf}
+use Rattle.head.specs.Row.{registers, registerNumbers, settingsOf}
 use Rattle.head.specs.ByRow.{placeOf}
+use Rattle.head.specs.declared.state.Settings.{Settings}
 use Rattle.head.specs.declared.state.Head.{Head}
 
 -- P of each of the n numbers from a on
@@ -29,9 +30,10 @@ each-at P (suc n) a all k low high = go (each-at P n (suc a) (all .1) k) (ℕ-di
     go later (yes e) = subst P (sym e) (all .0)
     go later (no ne) = later (omega arith) (omega arith)
 
--- the row with the data b at the place of kind k
-abbrev pub written : Head → ℕ → ℕ → Head
-written s k b = stateOf (set (numbersOf s) (placeOf k) b)
+-- the state with other registers
+abbrev pub with : Head → Settings → Head
+with s r =
+    record { settings = r; latches = s .latches; flags = s .flags; work = s .work; motion = s .motion; begun = s .begun }
 
 -- a kind between STOP and the mirror words, not of the detector's voltages, sets one register
 module _ (P : ℕ → Type 0) (first : Each P kind.irDetector 2) (rest : Each P kind.irDelay 12) where
@@ -47,7 +49,7 @@ module _ (P : ℕ → Type 0) (first : Each P kind.irDetector 2) (rest : Each P 
           each-at P 12 kind.irDelay rest k (omega arith) (omega arith)
 
 abbrev Inside : ℕ → Type 0
-Inside k = placeOf k < places
+Inside k = placeOf k < registers
 
 inside-first : Each Inside kind.irDetector 2
 unfolding placeOf
@@ -59,22 +61,23 @@ inside-rest = omega arith
 
 module _ (s : Head) (b : ℕ) where
   abbrev Sets : ℕ → Type 0
-  Sets k = written s k b ≡ after s k b
+  Sets k = with s (settingsOf (set (registerNumbers (s .settings)) (placeOf k) b)) ≡ after s k b
 
   sets-first : Each Sets kind.irDetector 2
-  unfolding placeOf numbersOf after
+  unfolding placeOf after
   sets-first = (refl, (refl, tt))
 
   sets-rest : Each Sets kind.irDelay 12
-  unfolding placeOf numbersOf after
+  unfolding placeOf after
   sets-rest = (refl, (refl, (refl, (refl, (refl, (refl, (refl, (refl, (refl, (refl, (refl, (refl, tt))))))))))))
 
 module _ (k : ℕ) (low : kind.stop < k) (high : k < kind.sinM) (other : (leb kind.vdetcomM k && leb k kind.vdetadjL) ≡ false) where
-  pub place-inside : placeOf k < places
+  pub place-inside : placeOf k < registers
   place-inside = plain Inside inside-first inside-rest k low high other
 
-  pub register-set : (s r : Head) (b at : ℕ) (row : List ℕ) → row ≡ numbersOf s → at ≡ placeOf k → r ≡ stateOf (set row at b) → r ≡ after s k b
-  register-set s r b at row is here e = e ∙ rw (is, here) (plain (Sets s b) (sets-first s b) (sets-rest s b) k low high other)
+  pub register-set : (s : Head) (r : Settings) (b at : ℕ) (row : List ℕ) → row ≡ registerNumbers (s .settings) → at ≡ placeOf k
+      → r ≡ settingsOf (set row at b) → with s r ≡ after s k b
+  register-set s r b at row is here e = rw (e, is, here) (plain (Sets s b) (sets-first s b) (sets-rest s b) k low high other)
 
 -- a kind of the detector's voltages
 module _ (k : ℕ) (voltage : (leb kind.vdetcomM k && leb k kind.vdetadjL) ≡ true) where

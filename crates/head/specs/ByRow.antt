@@ -66,14 +66,14 @@ received count sinm sinl cosm =
 unfoldable pub lasting : ℕ → ℕ → Bool
 lasting t n = cond (eqb t noTask) (eqb n 0) (cond (eqb t acquisition) (leb 1 n) (leb 1 n && leb n hkTicks))
 
--- The place in a row of the register that a word of each kind sets; 35 for a kind that sets none, or does more.
+-- The place in the row of registers of the one that a word of each kind sets; 20 for a kind that sets none, or does more.
 unfoldable pub placeOf : ℕ → ℕ
 placeOf k =
     getD
-    (35 ∷ 35 ∷ 35 ∷ 35 ∷ 0 ∷ 1 ∷ 35 ∷
-    35 ∷ 35 ∷ 35 ∷ 4 ∷ 5 ∷ 8 ∷ 9 ∷
+    (20 ∷ 20 ∷ 20 ∷ 20 ∷ 0 ∷ 1 ∷ 20 ∷
+    20 ∷ 20 ∷ 20 ∷ 4 ∷ 5 ∷ 8 ∷ 9 ∷
     10 ∷ 11 ∷ 6 ∷ 7 ∷ 12 ∷ 13 ∷ 14 ∷
-    15 ∷ 35 ∷ 35 ∷ 35 ∷ 35 ∷ 35 ∷ 35 ∷
+    15 ∷ 20 ∷ 20 ∷ 20 ∷ 20 ∷ 20 ∷ 20 ∷
     [])
     k
     0

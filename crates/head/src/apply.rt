@@ -25,7 +25,7 @@ ghost use Rattle.words.specs.Kinds.{stop, vdetcomM, vdetadjL, sinM, cosL, switc
 ghost use Rattle.head.specs.Limits.{stepTicks, readoutOf, lengthBy, lengthOf};
 ghost use Rattle.head.specs.Range.{inRange};
 ghost use Rattle.head.specs.Apply.{after};
-ghost use Rattle.head.specs.Row.{places};
+ghost use Rattle.head.specs.Row.{registers};
 ghost use Rattle.head.specs.ByRow.{placeOf};
 
 // The ticks of the IR readout in a window mode.
@@ -76,18 +76,18 @@ impl Settings {
     }
 }
 
-// The place in a state's row of the register that a word sets, by its kind; 35 for a kind that sets none, or does more.
+// The place in the row of registers of the one that a word sets, by its kind; 20 for a kind that sets none, or does more.
 const PLACE: [u8; 28] = [
-    35, // NOP
-    35, // START
-    35, // HK
-    35, // STOP
+    20, // NOP
+    20, // START
+    20, // HK
+    20, // STOP
     0, // IR DETECTOR
     1, // IR WIN MODE
-    35, // VDETCOM M
-    35, // VDETCOM L
-    35, // VDETADJ M
-    35, // VDETADJ L
+    20, // VDETCOM M
+    20, // VDETCOM L
+    20, // VDETADJ M
+    20, // VDETADJ L
     4, // IR DELAY
     5, // IR EXPO
     8, // WIN X1
@@ -100,18 +100,18 @@ const PLACE: [u8; 28] = [
     13, // IR LAMP
     14, // SHUTTER
     15, // ANNEALING
-    35, // SIN M
-    35, // SIN L
-    35, // COS M
-    35, // COS L
-    35, // SWITCH
-    35, // COVER
+    20, // SIN M
+    20, // SIN L
+    20, // COS M
+    20, // COS L
+    20, // SWITCH
+    20, // COVER
 ];
 
 fn place_of(kind: u8) -> u8
     requires { ⌜ stop < kind ⌝ ∗ ⌜ kind < sinM ⌝ ∗ ⌜ (leb vdetcomM kind && leb kind vdetadjL) ≡ false ⌝ }
     ensures { λ r. ⌜ r ≡ placeOf kind ⌝ }
-    ensures { λ r. ⌜ r < places ⌝ }
+    ensures { λ r. ⌜ r < registers ⌝ }
 {
     PLACE[kind as usize]
 }
@@ -181,14 +181,16 @@ impl Head {
     }
 
     // A word that sets the register of its name and nothing else.
-    fn set(self, kind: u8, bits: u16) -> Head
+    fn set(mut self, kind: u8, bits: u16) -> Head
         requires { ⌜ stop < kind ⌝ ∗ ⌜ kind < sinM ⌝ ∗ ⌜ (leb vdetcomM kind && leb kind vdetadjL) ≡ false ⌝ }
         ensures { λ r. ⌜ r ≡ after self kind bits ⌝ }
     {
-        let mut row = self.numbers();
+        let mut row = self.settings.numbers();
         let at = place_of(kind);
         row[at as usize] = bits;
-        Head::of(row)
+        let settings = Settings::of(row);
+        self.settings = settings;
+        self
     }
 
     // A mirror word in turn; the pair changes at COS L.

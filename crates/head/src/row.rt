@@ -1,13 +1,65 @@
-// A state as a row of 35 numbers, in the order of its fields.
-use crate::state::Begun;
-use crate::state::FlagBits;
+// A state as a row of 35 numbers, in the order of its fields, and the registers among them.
 use crate::state::Head;
-use crate::state::Latches;
-use crate::state::Motion;
 use crate::state::Settings;
-use crate::state::Work;
 ghost use mathlib.Core.Path.{_≡_};
-ghost use Rattle.head.specs.Row.{numbersOf, stateOf};
+ghost use Rattle.head.specs.Row.{registerNumbers, settingsOf, numbersOf};
+
+impl Settings {
+    pub fn numbers(self) -> [u16; 20]
+        ensures { λ r. ⌜ r ≡ registerNumbers self ⌝ }
+    {
+        [
+            self.detector,
+            self.mode,
+            self.vdetcom,
+            self.vdetadj,
+            self.irdelay,
+            self.irexpo,
+            self.ccddelay,
+            self.ccdexpo,
+            self.x1,
+            self.y1,
+            self.x2,
+            self.y2,
+            self.ccdlamp,
+            self.irlamp,
+            self.shutter,
+            self.annealing,
+            self.sine,
+            self.cosine,
+            self.switch,
+            self.direction,
+        ]
+    }
+
+    // The registers that a row stands for, in range or not.
+    pub fn of(row: [u16; 20]) -> Settings
+        ensures { λ r. ⌜ r ≡ settingsOf row ⌝ }
+    {
+        Settings {
+            detector: row[0],
+            mode: row[1],
+            vdetcom: row[2],
+            vdetadj: row[3],
+            irdelay: row[4],
+            irexpo: row[5],
+            ccddelay: row[6],
+            ccdexpo: row[7],
+            x1: row[8],
+            y1: row[9],
+            x2: row[10],
+            y2: row[11],
+            ccdlamp: row[12],
+            irlamp: row[13],
+            shutter: row[14],
+            annealing: row[15],
+            sine: row[16],
+            cosine: row[17],
+            switch: row[18],
+            direction: row[19],
+        }
+    }
+}
 
 impl Head {
     pub fn numbers(self) -> [u16; 35]
@@ -50,60 +102,5 @@ impl Head {
             self.begun.sinl,
             self.begun.cosm,
         ]
-    }
-
-    // The state that a row stands for, in range or not.
-    pub fn of(row: [u16; 35]) -> Head
-        ensures { λ r. ⌜ r ≡ stateOf row ⌝ }
-    {
-        Head {
-            settings: Settings {
-                detector: row[0],
-                mode: row[1],
-                vdetcom: row[2],
-                vdetadj: row[3],
-                irdelay: row[4],
-                irexpo: row[5],
-                ccddelay: row[6],
-                ccdexpo: row[7],
-                x1: row[8],
-                y1: row[9],
-                x2: row[10],
-                y2: row[11],
-                ccdlamp: row[12],
-                irlamp: row[13],
-                shutter: row[14],
-                annealing: row[15],
-                sine: row[16],
-                cosine: row[17],
-                switch: row[18],
-                direction: row[19],
-            },
-            latches: Latches {
-                vdetcom: row[20],
-                vdetadj: row[21],
-            },
-            flags: FlagBits {
-                irtime: row[22],
-                irword: row[23],
-                scan: row[24],
-                vistime: row[25],
-                visword: row[26],
-            },
-            work: Work {
-                task: row[27],
-                busy: row[28],
-            },
-            motion: Motion {
-                mirror: row[29],
-                cover: row[30],
-            },
-            begun: Begun {
-                count: row[31],
-                sinm: row[32],
-                sinl: row[33],
-                cosm: row[34],
-            },
-        }
     }
 }

@@ -1,10 +1,16 @@
 // A head's state as an array of 35 numbers.
+use head::state::Begun;
+use head::state::FlagBits;
 use head::state::Head;
+use head::state::Latches;
+use head::state::Motion;
+use head::state::Settings;
+use head::state::Work;
 ghost use mathlib.Core.Path.{_≡_};
 ghost use Prim.Native.Nat.{_+_, _≤_};
 ghost use lib.ListN.{length};
 ghost use lib.Seq.{sets};
-ghost use Rattle.head.specs.Row.{places, numbersOf, stateOf};
+ghost use Rattle.head.specs.Row.{places, settingsOf, numbersOf, stateOf};
 ghost use Rattle.interface.specs.State.{bitOf, wellFormed};
 
 pub const PLACES: usize = 35;
@@ -34,21 +40,66 @@ pub(crate) fn put(s: &mut [u16], at: usize, numbers: &[u16])
     }
 }
 
-// The numbers of an array that holds a state.
-fn row_of(s: &[u16]) -> [u16; 35]
+fn settings_of(s: &[u16]) -> Settings
     requires { ⌜ length (now s) ≡ places ⌝ }
-    ensures { λ r. ⌜ r ≡ now (s .entry) ⌝ }
+    ensures { λ r. ⌜ r ≡ settingsOf (now (s .entry)) ⌝ }
 {
-    let mut row = [0u16; PLACES];
-    put(&mut row, 0, s);
-    row
+    Settings {
+        detector: s[0],
+        mode: s[1],
+        vdetcom: s[2],
+        vdetadj: s[3],
+        irdelay: s[4],
+        irexpo: s[5],
+        ccddelay: s[6],
+        ccdexpo: s[7],
+        x1: s[8],
+        y1: s[9],
+        x2: s[10],
+        y2: s[11],
+        ccdlamp: s[12],
+        irlamp: s[13],
+        shutter: s[14],
+        annealing: s[15],
+        sine: s[16],
+        cosine: s[17],
+        switch: s[18],
+        direction: s[19],
+    }
 }
 
 pub(crate) fn load(s: &[u16]) -> Head
     requires { ⌜ length (now s) ≡ places ⌝ }
     ensures { λ r. ⌜ r ≡ stateOf (now (s .entry)) ⌝ }
 {
-    Head::of(row_of(s))
+    Head {
+        settings: settings_of(s),
+        latches: Latches {
+            vdetcom: s[20],
+            vdetadj: s[21],
+        },
+        flags: FlagBits {
+            irtime: s[22],
+            irword: s[23],
+            scan: s[24],
+            vistime: s[25],
+            visword: s[26],
+        },
+        work: Work {
+            task: s[27],
+            busy: s[28],
+        },
+        motion: Motion {
+            mirror: s[29],
+            cover: s[30],
+        },
+        begun: Begun {
+            count: s[31],
+            sinm: s[32],
+            sinl: s[33],
+            cosm: s[34],
+        },
+    }
 }
 
 pub(crate) fn store(s: &mut [u16], head: Head)
