@@ -17,7 +17,7 @@ most-if-requires-3 c κs = search needs
 
 returns : tie.Need-returns
 unfolding received greatest rows
-returns c = cc
+returns c = rw (c .most-if3 .ensures, c .before .most-if2 .ensures, c .before .before .most-if .ensures)
 
 pub is-received-spec : {M : Type 1} → statement M
 is-received-spec = tie.close (tie.spec most-if-requires most-if-requires-2 most-if-requires-3 returns)

@@ -12,7 +12,7 @@ down-requires-2 : tie.Need-down-requires-2
 down-requires-2 c κs = search needs
 
 returns : tie.Need-returns
-returns c = cc
+returns c = rw (c .down2 .ensures, c .before .down .ensures)
 
 pub lessened-spec : {M : Type 1} → statement M
 lessened-spec = tie.close (tie.spec down-requires down-requires-2 returns)
