@@ -14,7 +14,8 @@ use Rattle.head.specs.Range.{inRange}
 use Rattle.head.specs.declared.state.Head.{Head}
 use Rattle.head.specs.declared.state.Flags.{Flags}
 use Rattle.head.proofs.Bounds.{bounds, allowed-least, allowed-most}
-use Rattle.blocks.specs.Status.{sineWord, sineIn, sineRight, visFlagWord, visFlagsIn, visFlagsRight}
+use Rattle.status.specs.Status.{sineWord, sineIn, sineRight, visFlagWord, visFlagsIn, visFlagsRight}
+use Rattle.status.proofs.Fields.{sine-back, sine-fits, vis-flags-back}
 use Rattle.blocks.specs.Ccd.{ccdShown, ccdStatus, ccdBlockOf, cosineRight, ccdSaid, ccdRestJudged, ccdJudged, ccdAnswerOf, ccdReadingsOf, ccdRead, ccdReadOf}
 use Rattle.blocks.specs.declared.refusal.Refusal.{Refusal}
 use Rattle.blocks.specs.declared.refusal.Refusal.the-variants.{Length}
@@ -23,7 +24,6 @@ use Rattle.blocks.specs.declared.ccd.Window.{Window}
 use Rattle.blocks.specs.declared.ccd.CcdMeaning.{CcdMeaning}
 use Rattle.blocks.specs.declared.ccd.CcdRead.{CcdRead}
 use Rattle.blocks.specs.declared.ccd.CcdAnswer.the-variants.{Block, Refused}
-use Rattle.blocks.proofs.Fields.{sine-back, sine-fits, vis-flags-back}
 use Rattle.blocks.proofs.Parts.{status-judged, words, put-together, held, later, within-allowed}
 
 -- what a CCD block can say

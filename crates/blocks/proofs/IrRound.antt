@@ -16,7 +16,8 @@ use Rattle.head.specs.Range.{inRange}
 use Rattle.head.specs.declared.state.Head.{Head}
 use Rattle.head.specs.declared.state.Flags.{Flags}
 use Rattle.head.proofs.Bounds.{bounds, allowed-most}
-use Rattle.blocks.specs.Status.{lampShutterWord, lampShutterIn, lampShutterRight, irFlagWord, irFlagsIn, irFlagsRight}
+use Rattle.status.specs.Status.{lampShutterWord, lampShutterIn, lampShutterRight, irFlagWord, irFlagsIn, irFlagsRight}
+use Rattle.status.proofs.Fields.{lamp-shutter-back, lamp-shutter-fits, ir-flags-back}
 use Rattle.blocks.specs.Ir.{firstLine, lastLine, modeOf, linesRight, irShown, irStatus, irBlockOf, irSaid, irJudged, irAnswerOf, irReadingsOf, irRead, irReadOf}
 use Rattle.blocks.specs.declared.refusal.Refusal.{Refusal}
 use Rattle.blocks.specs.declared.refusal.Refusal.the-variants.{Length}
@@ -24,7 +25,6 @@ use Rattle.blocks.specs.declared.ir.IrBits.{IrBits}
 use Rattle.blocks.specs.declared.ir.IrMeaning.{IrMeaning}
 use Rattle.blocks.specs.declared.ir.IrRead.{IrRead}
 use Rattle.blocks.specs.declared.ir.IrAnswer.the-variants.{Block, Refused}
-use Rattle.blocks.proofs.Fields.{lamp-shutter-back, lamp-shutter-fits, ir-flags-back}
 use Rattle.blocks.proofs.Parts.{status-judged, words, put-together, held, later, within-allowed}
 
 -- what an IR block can say

@@ -10,7 +10,8 @@ use Rattle.words.specs.Kinds.{rows, least, greatest, allowed}
 use Rattle.head.specs.Range.{inRange}
 use Rattle.head.proofs.Bounds.{bounds, in-range, power-on-range, RegisterBounds}
 use Rattle.head.specs.State.{powerOn}
-use Rattle.blocks.specs.Status.{bit, isSet, sineWord, sineFields, composed}
+use Rattle.status.specs.Status.{bit, isSet, sineWord, sineFields, composed}
+use Rattle.status.proofs.Fields.{bit-set, bit-fits, sine-back}
 use Rattle.blocks.specs.Ir.{irShown, irBlockOf, irRead, irReadOf}
 use Rattle.blocks.specs.Ccd.{ccdShown, ccdBlockOf, ccdRead, ccdReadOf}
 use Rattle.blocks.specs.Said.{settingsSaid, headSaid, flagsSaid, irBitsSaid, ccdBitsSaid}
@@ -18,7 +19,6 @@ use Rattle.blocks.specs.declared.ir.IrMeaning.{IrMeaning}
 use Rattle.blocks.specs.declared.ir.IrAnswer.the-variants as ir
 use Rattle.blocks.specs.declared.ccd.CcdMeaning.{CcdMeaning}
 use Rattle.blocks.specs.declared.ccd.CcdAnswer.the-variants as ccd
-use Rattle.blocks.proofs.Fields.{bit-set, bit-fits, sine-back}
 use Rattle.blocks.proofs.IrRound.{IrFits, ir-read-fits, ir-read-status}
 use Rattle.blocks.proofs.CcdRound.{CcdFits, ccd-read-fits, ccd-read-status}
 

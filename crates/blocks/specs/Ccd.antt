@@ -10,7 +10,7 @@ use Rattle.words.specs.Kinds as kind
 use Rattle.words.specs.Kinds.{allowed, greatest}
 use Rattle.head.specs.declared.state.Flags.{Flags}
 use Rattle.head.specs.declared.state.Head.{Head}
-use Rattle.blocks.specs.Status.{isSet, sineWord, sineIn, sineRight, visFlagWord, visFlagsIn, visFlagsRight}
+use Rattle.status.specs.Status.{isSet, sineWord, sineIn, sineRight, visFlagWord, visFlagsIn, visFlagsRight}
 use Rattle.blocks.specs.declared.refusal.Refusal.{Refusal}
 use Rattle.blocks.specs.declared.refusal.Refusal.the-variants.{Length, FixedBit, OutOfRange}
 use Rattle.blocks.specs.declared.ccd.CcdBits.{CcdBits}

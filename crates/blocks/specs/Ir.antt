@@ -10,7 +10,7 @@ use Rattle.words.specs.Kinds as kind
 use Rattle.words.specs.Kinds.{allowed}
 use Rattle.head.specs.declared.state.Flags.{Flags}
 use Rattle.head.specs.declared.state.Head.{Head}
-use Rattle.blocks.specs.Status.{isSet, lampShutterWord, lampShutterIn, lampShutterRight, irFlagWord, irFlagsIn, irFlagsRight}
+use Rattle.status.specs.Status.{isSet, lampShutterWord, lampShutterIn, lampShutterRight, irFlagWord, irFlagsIn, irFlagsRight}
 use Rattle.blocks.specs.declared.refusal.Refusal.{Refusal}
 use Rattle.blocks.specs.declared.refusal.Refusal.the-variants.{Length, FixedBit, OutOfRange}
 use Rattle.blocks.specs.declared.ir.IrBits.{IrBits}

@@ -1,4 +1,3 @@
-pub mod Status
 pub mod Numbers
 pub mod Written
 pub mod Ir

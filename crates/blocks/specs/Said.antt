@@ -6,7 +6,7 @@ use Rattle.head.specs.State.{powerOn}
 use Rattle.head.specs.declared.state.Settings.{Settings}
 use Rattle.head.specs.declared.state.Flags.{Flags}
 use Rattle.head.specs.declared.state.Head.{Head}
-use Rattle.blocks.specs.Status.{bit, sineWord}
+use Rattle.status.specs.Status.{bit, sineWord}
 use Rattle.blocks.specs.declared.ir.IrBits.{IrBits}
 use Rattle.blocks.specs.declared.ir.IrMeaning.{IrMeaning}
 use Rattle.blocks.specs.declared.ccd.CcdBits.{CcdBits}

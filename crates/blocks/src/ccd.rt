@@ -1,12 +1,12 @@
 // The CCD block: 16 readings and nine status words.
 use crate::copy::copy_in;
 use crate::refusal::Refusal;
-use crate::status::Sine;
-use crate::status::VisFlags;
 use crate::written::Written;
 use crate::written::write_block;
 use head::state::Flags;
 use head::state::Head;
+use status::Sine;
+use status::VisFlags;
 use words::allows;
 use words::kinds::CCD_DELAY;
 use words::kinds::CCD_EXPO;

@@ -1,12 +1,12 @@
 // The IR block: 14 readings and six status words.
 use crate::copy::copy_in;
 use crate::refusal::Refusal;
-use crate::status::IrFlags;
-use crate::status::LampShutter;
 use crate::written::Written;
 use crate::written::write_block;
 use head::state::Flags;
 use head::state::Head;
+use status::IrFlags;
+use status::LampShutter;
 use words::allows;
 use words::kinds::IR_DELAY;
 use words::kinds::IR_EXPO;

@@ -4,5 +4,4 @@ pub mod copy;
 pub mod due;
 pub mod ir;
 pub mod refusal;
-pub mod status;
 pub mod written;

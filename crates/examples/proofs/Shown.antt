@@ -10,7 +10,7 @@ use Rattle.head.specs.Apply.{after, actOf}
 use Rattle.head.specs.Word.{outOfTurn, onWord, onDecoded, answerOf}
 use Rattle.head.specs.Tick.{taskOf, tickOf, ticksOf, passed}
 use Rattle.head.specs.Numbers.{actNumber, causeNumber, outcomeNumber}
-use Rattle.blocks.specs.Status.{lampShutterWord, lampShutterFields, irFlagWord, irFlagFields, sineWord, sineIn, sineFields, visFlagWord, visFlagFields, composed, valuesIn}
+use Rattle.status.specs.Status.{lampShutterWord, lampShutterFields, irFlagWord, irFlagFields, sineWord, sineIn, sineFields, visFlagWord, visFlagFields, composed, valuesIn}
 use Rattle.blocks.specs.Written.{writtenOf, writtenIf, bufferAfter}
 use Rattle.blocks.specs.Ir.{irBlockOf, irShown, irStatus}
 use Rattle.blocks.specs.Ccd.{ccdBlockOf, ccdShown, ccdStatus}

@@ -6,6 +6,8 @@ use mathlib.Core.List.{List, [], _∷_, _++_}
 use lib.Dec.{eqb}
 use lib.ListN.{length, take}
 use Rattle.head.specs.declared.state.Flags.{Flags}
+use Rattle.status.specs.declared.IrFlags.{IrFlags}
+use Rattle.status.specs.declared.VisFlags.{VisFlags}
 use Rattle.blocks.specs.Numbers.{refusalNumber, refusalPlace}
 use Rattle.blocks.specs.Written.{writtenIf}
 use Rattle.blocks.specs.Ir.{irReadings, irBlockOf, irAnswerOf}
@@ -14,8 +16,6 @@ use Rattle.blocks.specs.declared.refusal.Refusal.{Refusal}
 use Rattle.blocks.specs.declared.refusal.Refusal.the-variants.{Length}
 use Rattle.blocks.specs.declared.written.Written.{Written}
 use Rattle.blocks.specs.declared.written.Written.the-variants as written
-use Rattle.blocks.specs.declared.status.IrFlags.{IrFlags}
-use Rattle.blocks.specs.declared.status.VisFlags.{VisFlags}
 use Rattle.blocks.specs.declared.ir.IrBits.{IrBits}
 use Rattle.blocks.specs.declared.ir.IrMeaning.{IrMeaning}
 use Rattle.blocks.specs.declared.ir.IrAnswer.{IrAnswer}
