@@ -6,4 +6,3 @@ pub mod Parts
 pub mod IrRound
 pub mod CcdRound
 pub mod Rewritten
-pub mod Ended

@@ -2,5 +2,4 @@ pub mod Numbers
 pub mod Written
 pub mod Ir
 pub mod Ccd
-pub mod Due
 pub mod Said

@@ -10,8 +10,6 @@ use Rattle.blocks.specs.declared.ir.IrAnswer.{IrAnswer}
 use Rattle.blocks.specs.declared.ir.IrAnswer.the-variants as ir
 use Rattle.blocks.specs.declared.ccd.CcdAnswer.{CcdAnswer}
 use Rattle.blocks.specs.declared.ccd.CcdAnswer.the-variants as ccd
-use Rattle.blocks.specs.declared.due.DueWritten.{DueWritten}
-use Rattle.blocks.specs.declared.due.DueWritten.the-variants as due
 
 abbrev pub refusalNumber : Refusal → ℕ
 refusalNumber Length = 11
@@ -48,16 +46,3 @@ ccdNumber (ccd.Refused r) = refusalNumber r
 abbrev pub ccdPlace : CcdAnswer → ℕ
 ccdPlace (ccd.Block m) = 0
 ccdPlace (ccd.Refused r) = refusalPlace r
-
--- Where no block is due. Document 01 has no number for that: this one is ours, and tells it from blocks that are written (0) and
--- from each refusal.
-abbrev pub notDueNumber : ℕ
-notDueNumber = 255
-
-abbrev pub dueWrittenNumber : DueWritten → ℕ
-dueWrittenNumber due.NotDue = notDueNumber
-dueWrittenNumber (due.Blocks w) = writtenNumber w
-
-abbrev pub dueWrittenPlace : DueWritten → ℕ
-dueWrittenPlace due.NotDue = 0
-dueWrittenPlace (due.Blocks w) = writtenPlace w

@@ -1,7 +1,6 @@
 // The two housekeeping blocks, written and read (document 01, "Blocks").
 pub mod ccd;
 pub mod copy;
-pub mod due;
 pub mod ir;
 pub mod refusal;
 pub mod written;

@@ -14,7 +14,7 @@ use Rattle.status.specs.Status.{lampShutterWord, lampShutterFields, irFlagWord,
 use Rattle.blocks.specs.Written.{writtenOf, writtenIf, bufferAfter}
 use Rattle.blocks.specs.Ir.{irBlockOf, irShown, irStatus}
 use Rattle.blocks.specs.Ccd.{ccdBlockOf, ccdShown, ccdStatus}
-use Rattle.blocks.specs.Due.{acquisition, bothWrittenOf, irDueAfter, ccdDueAfter}
+use Rattle.due.specs.Due.{acquisition, bothWrittenOf, irDueAfter, ccdDueAfter}
 use Rattle.plan.specs.Codes.{countOf, widthOf, known, lengthOf as orderLength, within, related, fieldsFit}
 use Rattle.plan.specs.Stored.{fieldAt, orderAt, faultAt, headerFault, ordersFrom, planOf}
 use Rattle.plan.specs.Words.{sineRegister, wordsOf, itemsOf, itemsOfAll}

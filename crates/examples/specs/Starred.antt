@@ -19,9 +19,9 @@ use Rattle.schedule.specs.Schedule.{Schedule}
 use Rattle.schedule.specs.Translate.{scheduleOf, translateOf, translatedNumber, tickList, wordList}
 use Rattle.blocks.specs.Ir.{irWords, irReadings}
 use Rattle.blocks.specs.Ccd.{ccdWords, ccdReadings}
-use Rattle.blocks.specs.Due.{irDueAfter, ccdDueAfter}
 use Rattle.blocks.specs.declared.ir.IrBits.{IrBits}
 use Rattle.blocks.specs.declared.ccd.CcdBits.{CcdBits}
+use Rattle.due.specs.Due.{irDueAfter, ccdDueAfter}
 
 pub record Row : Type 0 where
   pub got : ℕ

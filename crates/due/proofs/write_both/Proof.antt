@@ -1,14 +1,14 @@
--- `blocks::due::write_both` meets its contract.
+-- `due::write_both` meets its contract.
 -- Assumes nothing.
 use mathlib.Core.Path.{refl}
-use Rattle.blocks.specs.Due.{bothWrittenOf}
 use Rattle.blocks.specs.declared.refusal.Refusal.the-variants.{Length}
 use Rattle.blocks.proofs.Judged.{unequal}
-use Rattle.blocks.proofs.Numbered.{both-numbered}
-use Rattle.blocks.proofs.Writing.{untouched, first-decides, both-decide, first-kept}
+use Rattle.due.specs.Due.{bothWrittenOf}
+use Rattle.due.proofs.Numbered.{both-numbered}
+use Rattle.due.proofs.Both.{untouched, first-decides, both-decide, first-kept}
 use borrow.Author.Needs.{needs}
-use Rattle.blocks.proofs.due.write_both.Statement.{statement}
-use Rattle.blocks.proofs.due.write_both.Tie as tie
+use Rattle.due.proofs.write_both.Statement.{statement}
+use Rattle.due.proofs.write_both.Tie as tie
 
 returns : tie.Need-returns
 unfolding bothWrittenOf

@@ -1,22 +1,23 @@
 // From a tick that ends a task to the two blocks.
-use crate::ccd::CCD_WORDS;
-use crate::ccd::CcdBits;
-use crate::ccd::write_ccd;
-use crate::ir::IrBits;
-use crate::ir::write_ir;
-use crate::refusal::Refusal;
-use crate::written::Written;
+use blocks::ccd::CCD_WORDS;
+use blocks::ccd::CcdBits;
+use blocks::ccd::write_ccd;
+use blocks::ir::IrBits;
+use blocks::ir::write_ir;
+use blocks::refusal::Refusal;
+use blocks::written::Written;
 use head::state::Flags;
 use head::state::Head;
 use head::state::Task;
 use head::tick::Due;
 use head::tick::Ticked;
 ghost use mathlib.Core.Path.{_≡_};
-ghost use Rattle.blocks.specs.Numbers.{writtenNumber, writtenPlace, dueWrittenNumber, dueWrittenPlace};
+ghost use Rattle.blocks.specs.Numbers.{writtenNumber, writtenPlace};
 ghost use Rattle.blocks.specs.Written.{bufferAfter};
 ghost use Rattle.blocks.specs.Ir.{irBlockOf};
 ghost use Rattle.blocks.specs.Ccd.{ccdBlockOf};
-ghost use Rattle.blocks.specs.Due.{acquisition, bothWrittenOf, bothNumber, dueWrittenOf, dueNumber, irDueAfter, ccdDueAfter};
+ghost use Rattle.due.specs.Numbers.{dueWrittenNumber, dueWrittenPlace};
+ghost use Rattle.due.specs.Due.{acquisition, bothWrittenOf, bothNumber, dueWrittenOf, dueNumber, irDueAfter, ccdDueAfter};
 
 // What the caller gives for both blocks.
 pub struct Given {

@@ -10,17 +10,18 @@ use Rattle.head.specs.declared.state.Task.{Task}
 use Rattle.head.specs.declared.state.Task.the-variants.{Idle, Acquisition, Housekeeping}
 use Rattle.head.specs.declared.tick.Due.{Due}
 use Rattle.head.specs.declared.tick.Due.the-variants as due
-use Rattle.blocks.specs.Numbers.{refusalNumber, notDueNumber}
+use Rattle.blocks.specs.Numbers.{refusalNumber}
 use Rattle.blocks.specs.Written.{writtenOf, writeNumber, bufferAfter}
 use Rattle.blocks.specs.Ir.{irWords, irBlockOf}
 use Rattle.blocks.specs.Ccd.{ccdWords, ccdBlockOf}
 use Rattle.blocks.specs.declared.refusal.Refusal.the-variants.{Length}
 use Rattle.blocks.specs.declared.written.Written.{Written}
 use Rattle.blocks.specs.declared.written.Written.the-variants.{Refused}
 use Rattle.blocks.specs.declared.ir.IrBits.{IrBits}
 use Rattle.blocks.specs.declared.ccd.CcdBits.{CcdBits}
-use Rattle.blocks.specs.declared.due.DueWritten.{DueWritten}
-use Rattle.blocks.specs.declared.due.DueWritten.the-variants.{NotDue, Blocks}
+use Rattle.due.specs.Numbers.{notDueNumber}
+use Rattle.due.specs.declared.DueWritten.{DueWritten}
+use Rattle.due.specs.declared.DueWritten.the-variants.{NotDue, Blocks}
 
 -- Whether an acquisition ended.
 unfoldable pub acquisition : Task → Bool

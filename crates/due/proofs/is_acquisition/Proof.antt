@@ -1,9 +1,9 @@
--- `blocks::due::is_acquisition` meets its contract.
+-- `due::is_acquisition` meets its contract.
 -- Assumes nothing.
-use Rattle.blocks.specs.Due.{acquisition}
+use Rattle.due.specs.Due.{acquisition}
 use borrow.Author.Needs.{needs}
-use Rattle.blocks.proofs.due.is_acquisition.Statement.{statement}
-use Rattle.blocks.proofs.due.is_acquisition.Tie as tie
+use Rattle.due.proofs.is_acquisition.Statement.{statement}
+use Rattle.due.proofs.is_acquisition.Tie as tie
 
 enum-told : tie.Need-enum-told
 enum-told c = search needs

@@ -15,14 +15,14 @@ use Rattle.head.specs.declared.tick.Due.the-variants as due
 use Rattle.head.proofs.BusyTicks.{last-due}
 use Rattle.head.proofs.Keep.{tick-keeps}
 use Rattle.head.proofs.Ticks.{ticks-settings}
 use Rattle.blocks.specs.Written.{writtenOf, writtenIf, bufferAfter}
 use Rattle.blocks.specs.Ir.{irShown, irBlockOf}
 use Rattle.blocks.specs.Ccd.{ccdShown, ccdBlockOf}
-use Rattle.blocks.specs.Due.{acquisition, bothWrittenOf, dueWrittenOf, irDueAfter, ccdDueAfter}
 use Rattle.blocks.specs.declared.ir.IrBits.{IrBits}
 use Rattle.blocks.specs.declared.ccd.CcdBits.{CcdBits}
 use Rattle.blocks.specs.declared.written.Written.the-variants.{Done}
-use Rattle.blocks.specs.declared.due.DueWritten.the-variants.{Blocks}
+use Rattle.due.specs.Due.{acquisition, bothWrittenOf, dueWrittenOf, irDueAfter, ccdDueAfter}
+use Rattle.due.specs.declared.DueWritten.the-variants.{Blocks}
 
 module _ (s : Head) (h : inRange s ≡ true) (last : busyTicks s ≡ 1) where
   ends : tickOf s .due ≡ due.Blocks (taskOf (s .work .task)) (shown (s .flags))

@@ -1,4 +1,4 @@
--- `blocks::due::write_due` meets its contract.
+-- `due::write_due` meets its contract.
 -- Assumes nothing.
 use Prim.Native.Nat.{ℕ}
 use mathlib.Core.Bool.{Bool}
@@ -9,18 +9,18 @@ use Rattle.head.specs.declared.state.Flags.{Flags}
 use Rattle.head.specs.declared.state.Task.{Task}
 use Rattle.head.specs.declared.tick.Due.{Due}
 use Rattle.head.specs.declared.tick.Due.the-variants as due
 use Rattle.blocks.specs.Written.{bufferAfter}
 use Rattle.blocks.specs.Ir.{irBlockOf}
 use Rattle.blocks.specs.Ccd.{ccdBlockOf}
 use Rattle.blocks.specs.declared.written.Written.{Written}
 use Rattle.blocks.specs.declared.ir.IrBits.{IrBits}
 use Rattle.blocks.specs.declared.ccd.CcdBits.{CcdBits}
-use Rattle.blocks.specs.declared.due.DueWritten.the-variants.{Blocks}
-use Rattle.blocks.specs.Due.{acquisition, bothWrittenOf, dueWrittenOf, irDueAfter, ccdDueAfter}
-use Rattle.blocks.proofs.Numbered.{due-numbered}
+use Rattle.due.specs.declared.DueWritten.the-variants.{Blocks}
+use Rattle.due.specs.Due.{acquisition, bothWrittenOf, dueWrittenOf, irDueAfter, ccdDueAfter}
+use Rattle.due.proofs.Numbered.{due-numbered}
 use borrow.Author.Needs.{needs}
-use Rattle.blocks.proofs.due.write_due.Statement.{statement}
-use Rattle.blocks.proofs.due.write_due.Tie as tie
+use Rattle.due.proofs.write_due.Statement.{statement}
+use Rattle.due.proofs.write_due.Tie as tie
 
 enum-told : tie.Need-enum-told
 enum-told c = search needs
