@@ -15,9 +15,9 @@ use Rattle.blocks.specs.Written.{writtenOf, writtenIf, bufferAfter}
 use Rattle.blocks.specs.Ir.{irBlockOf, irShown, irStatus}
 use Rattle.blocks.specs.Ccd.{ccdBlockOf, ccdShown, ccdStatus}
 use Rattle.due.specs.Due.{acquisition, bothWrittenOf, irDueAfter, ccdDueAfter}
-use Rattle.plan.specs.Codes.{countOf, widthOf, known, lengthOf as orderLength, within, related, fieldsFit}
+use Rattle.orders.specs.Codes.{countOf, widthOf, known, lengthOf as orderLength, within, related, fieldsFit}
+use Rattle.orders.specs.Words.{sineRegister, wordsOf, itemsOf, itemsOfAll}
 use Rattle.plan.specs.Stored.{fieldAt, orderAt, faultAt, headerFault, ordersFrom, planOf}
-use Rattle.plan.specs.Words.{sineRegister, wordsOf, itemsOf, itemsOfAll}
 use Rattle.head.specs.Busy.{busyTicks, isBusy, atRest}
 use Rattle.schedule.specs.Earliest.{isTaken, ready, delayWithin, delayOf}
 use Rattle.schedule.specs.Schedule.{readied, spanOf, sent, scheduleFrom}

@@ -11,9 +11,9 @@ use lib.ListN.{length}
 use mir.Syntax.{w8}
 use mir.Val.{Fits}
 use Rattle.head.specs.declared.state.Head.{Head}
+use Rattle.orders.specs.declared.order.Order.{Order}
+use Rattle.orders.specs.Words.{itemsOfAll}
 use Rattle.plan.specs.Stored.{Plan, orders, refused, byteAt, pairAt, orderAt, faultAt, before, headerFault, ordersFrom, mostOrders, planOf}
-use Rattle.plan.specs.declared.order.Order.{Order}
-use Rattle.plan.specs.Words.{itemsOfAll}
 use Rattle.plan.proofs.Accepted.{AllFit, accepted-fit, accepted-few}
 use Rattle.schedule.specs.Schedule.{Schedule, scheduleFrom}
 use Rattle.schedule.specs.Translate.{fit, scheduleOf, answerOfPlan, translateOf, filled, wordList, tickList, translatedNumber}

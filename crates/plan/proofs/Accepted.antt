@@ -9,10 +9,10 @@ use native.Mathlib.Omega.{arith}
 use borrow.Author.Tests.{eqb-true, ltb-false}
 use lib.Dec.{eqb, ltb}
 use lib.ListN.{length, drop}
-use Rattle.plan.specs.Codes.{known, lengthOf, fieldsFit, fit}
+use Rattle.orders.specs.Codes.{known, lengthOf, fieldsFit, fit}
+use Rattle.orders.specs.declared.order.Order.{Order}
 use Rattle.plan.specs.Stored.{Plan, orders, refused, ordersIn, byteAt, pairAt, orderAt, faultAt, before, headerFault, ordersFrom, mostOrders, planOf}
 use Rattle.plan.specs.Judged.{judgedOf}
-use Rattle.plan.specs.declared.order.Order.{Order}
 use Rattle.plan.specs.declared.stored.Judged.the-variants.{Accepted, Refused}
 use Rattle.plan.proofs.Judging.{from-end, from-many, from-fault, from-order}
 

@@ -10,12 +10,12 @@ use native.Mathlib.Omega.{arith}
 use borrow.Author.Tests.{eq-eqb, ne-eqb, lt-ltb, le-ltb, eqb-true}
 use lib.Dec.{T, eqb}
 use lib.ListN.{length, List·getD-eq-default}
-use Rattle.plan.specs.Codes.{countOf, widthOf, known, lengthOf, fieldsFit}
+use Rattle.orders.specs.Codes.{countOf, widthOf, known, lengthOf, fieldsFit}
+use Rattle.orders.specs.declared.order.Order.{Order}
+use Rattle.orders.proofs.Rows.{width-some}
 use Rattle.plan.specs.Stored.{byteAt, valueAt, reach, fieldAt, fieldsAt, orderAt, faultAt}
 use Rattle.plan.specs.Judged.{faulty, checkedAt}
-use Rattle.plan.specs.declared.order.Order.{Order}
 use Rattle.plan.specs.declared.stored.Checked.{Checked}
-use Rattle.plan.proofs.Rows.{width-some}
 
 -- past the end there is 0
 pub byte-past : (bs : List ℕ) (i : ℕ) → length bs ≤ i → 0 ≡ byteAt bs i

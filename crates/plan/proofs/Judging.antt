@@ -6,9 +6,9 @@ use Prim.Native.Nat.{ℕ, zero, suc, _+_, _-_, _<_, _≤_}
 use native.Mathlib.Omega.{arith}
 use borrow.Author.Tests.{eq-eqb, ne-eqb, lt-ltb, le-ltb}
 use lib.ListN.{length}
+use Rattle.orders.specs.declared.order.Order.{Order}
 use Rattle.plan.specs.Stored.{Plan, orders, refused, byteAt, pairAt, orderAt, faultAt, before, headerFault, ordersFrom, mostOrders, planOf, planNumber, planPlace}
 use Rattle.plan.specs.Judged.{judgedOf, judgedNumber, judgedPlace}
-use Rattle.plan.specs.declared.order.Order.{Order}
 use Rattle.plan.specs.declared.stored.Judged.{Judged}
 use Rattle.plan.specs.declared.stored.Judged.the-variants.{Accepted, Refused}
 

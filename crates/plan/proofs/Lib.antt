@@ -1,9 +1,5 @@
-pub mod Rows
-pub mod Fit
 pub mod Bytes
 pub mod Judging
-pub mod OrderWords
-pub mod Sending
 pub mod Accepted
 pub mod Laid
 pub mod Registers

@@ -9,14 +9,14 @@ use borrow.Author.Tests.{eq-eqb, ne-eqb}
 use lib.ListN.{length, drop, length-append, drop-of-length-le}
 use lib.Seq.{sets, length-sets}
 use Rattle.head.specs.declared.state.Settings.{Settings}
-use Rattle.plan.specs.Codes as code
-use Rattle.plan.specs.Codes.{is, fit}
+use Rattle.orders.specs.Codes as code
+use Rattle.orders.specs.Codes.{is, fit}
+use Rattle.orders.specs.declared.order.Order.{Order}
 use Rattle.plan.specs.Stored.{Plan, orders, refused, byteAt, orderAt, planOf, planNumber, planPlace, ordersIn}
 use Rattle.plan.specs.Judged.{judgedOf, checkedAt}
 use Rattle.plan.specs.Reading.{exposure, request, coverMove, settingsBy, entriesBy, settingsRead, logRead}
 use Rattle.plan.specs.Rows.{rowsOf, endRow, recordOf}
 use Rattle.plan.specs.Read.{readOf, readNumber, readPlace, readRecord, atFront}
-use Rattle.plan.specs.declared.order.Order.{Order}
 use Rattle.plan.specs.declared.stored.Checked.{Checked}
 use Rattle.plan.specs.declared.stored.Judged.{Judged}
 use Rattle.plan.specs.declared.reading.Read.{Read}

@@ -6,12 +6,12 @@ use Prim.Native.Nat.{ℕ, _+_, _*_, _≤_}
 use native.Mathlib.Omega.{arith}
 use lib.Dec.{lit≤}
 use Rattle.head.specs.declared.state.Settings.{Settings}
-use Rattle.plan.specs.Codes as code
-use Rattle.plan.specs.Codes.{recoded, is, rows, fieldsFit, fit}
+use Rattle.orders.specs.Codes as code
+use Rattle.orders.specs.Codes.{recoded, is, rows, fieldsFit, fit}
+use Rattle.orders.specs.declared.order.Order.{Order}
+use Rattle.orders.proofs.Fit.{Apart, by-order, fit-known, fit-fields, fit-bounds}
+use Rattle.orders.proofs.Sending.{others-not}
 use Rattle.plan.specs.Reading.{settingsBy}
-use Rattle.plan.specs.declared.order.Order.{Order}
-use Rattle.plan.proofs.Fit.{Apart, by-order, fit-known, fit-fields, fit-bounds}
-use Rattle.plan.proofs.Sending.{others-not}
 
 module _ (o : Order) (f : fit o ≡ true) where
   pub motor-most : o .code ≡ code.motor → o .a ≤ 1

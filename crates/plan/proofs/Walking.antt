@@ -7,8 +7,8 @@ use native.Mathlib.Omega.{arith}
 use native.Mathlib.Decide.{decLt}
 use lib.ListN.{length, drop, length-drop}
 use lib.Seq.{drop-drop}
+use Rattle.orders.specs.declared.order.Order.{Order}
 use Rattle.plan.specs.Stored.{orders, byteAt, orderAt, faultAt, ordersFrom, planOf}
-use Rattle.plan.specs.declared.order.Order.{Order}
 use Rattle.plan.proofs.Accepted.{Sound, sound, orders-sound, orders-first, orders-rest, orders-done, accepted-orders, accepted-few, accepted-header}
 
 pub record Walking (bs : List ℕ) (os : List Order) (at k : ℕ) : Type 0 where

@@ -5,10 +5,10 @@ use mathlib.Core.Bool.{cond}
 use mathlib.Core.List.{List, [], _∷_, _++_}
 use Rattle.words.specs.Fields.{switched}
 use Rattle.head.specs.declared.state.Settings.{Settings}
-use Rattle.plan.specs.Codes as code
-use Rattle.plan.specs.Codes.{is}
-use Rattle.plan.specs.Words.{sineRegister, switchData}
-use Rattle.plan.specs.declared.order.Order.{Order}
+use Rattle.orders.specs.Codes as code
+use Rattle.orders.specs.Codes.{is}
+use Rattle.orders.specs.Words.{sineRegister, switchData}
+use Rattle.orders.specs.declared.order.Order.{Order}
 
 -- The log of acts: an exposure with all settings as they stand, a housekeeping request, a cover move with its four fields.
 pub data Entry : Type 0 where

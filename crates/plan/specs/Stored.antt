@@ -5,8 +5,8 @@ use mathlib.Core.Bool.{Bool, cond, not, _||_}
 use mathlib.Core.List.{List, [], _∷_}
 use lib.Dec.{ltb, eqb}
 use lib.ListN.{length, getD}
-use Rattle.plan.specs.Codes.{countOf, widthOf, known, lengthOf, fieldsFit}
-use Rattle.plan.specs.declared.order.Order.{Order}
+use Rattle.orders.specs.Codes.{countOf, widthOf, known, lengthOf, fieldsFit}
+use Rattle.orders.specs.declared.order.Order.{Order}
 
 pub data Plan : Type 0 where
   orders : List Order → Plan

@@ -1,14 +1,10 @@
 // A stored plan read without words: its log of acts and the settings at the end, as rows (document 01, "Plans").
-use crate::codes::COVER;
-use crate::codes::EXPOSE;
-use crate::codes::HOUSEKEEPING;
 use crate::log::END;
 use crate::log::EXPOSURE;
 use crate::log::cover_row;
 use crate::log::lay;
 use crate::log::request_row;
 use crate::log::settings_row;
-use crate::order::Order;
 use crate::settings::settings_by;
 use crate::stored::HEADER;
 use crate::stored::Judged;
@@ -17,6 +13,10 @@ use crate::stored::byte_at;
 use crate::stored::checked_at;
 use crate::stored::judge;
 use head::state::Settings;
+use orders::codes::COVER;
+use orders::codes::EXPOSE;
+use orders::codes::HOUSEKEEPING;
+use orders::order::Order;
 ghost use mathlib.Core.Path.{_≡_};
 ghost use Prim.Native.Nat.{_+_, _*_, _<_};
 ghost use lib.ListN.{length};

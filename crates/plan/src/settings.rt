@@ -1,26 +1,26 @@
 // The settings after an order, by its fields alone (document 01, "Plans").
-use crate::codes::ANNEALING;
-use crate::codes::CCD_LAMP;
-use crate::codes::CCD_TIMES;
-use crate::codes::COVER;
-use crate::codes::DETECTOR;
-use crate::codes::IR_LAMP;
-use crate::codes::IR_TIMES;
-use crate::codes::MIRROR;
-use crate::codes::MOTOR;
-use crate::codes::SHUTTER;
-use crate::codes::VDETADJ;
-use crate::codes::VDETCOM;
-use crate::codes::WINDOW;
-use crate::codes::WINDOW_MODE;
-use crate::encoding::sine_register;
-use crate::order::Order;
 use head::state::Settings;
+use orders::codes::ANNEALING;
+use orders::codes::CCD_LAMP;
+use orders::codes::CCD_TIMES;
+use orders::codes::COVER;
+use orders::codes::DETECTOR;
+use orders::codes::IR_LAMP;
+use orders::codes::IR_TIMES;
+use orders::codes::MIRROR;
+use orders::codes::MOTOR;
+use orders::codes::SHUTTER;
+use orders::codes::VDETADJ;
+use orders::codes::VDETCOM;
+use orders::codes::WINDOW;
+use orders::codes::WINDOW_MODE;
+use orders::encoding::sine_register;
+use orders::order::Order;
 ghost use mathlib.Core.Path.{_≡_};
 ghost use mathlib.Core.Bool.{true};
 ghost use Prim.Native.Nat.{_≤_};
 ghost use Rattle.words.specs.Fields.{switched};
-ghost use Rattle.plan.specs.Codes.{ccdLamp, annealing, fit};
+ghost use Rattle.orders.specs.Codes.{ccdLamp, annealing, fit};
 ghost use Rattle.plan.specs.Reading.{settingsBy};
 
 // What a lamp, the shutter or the annealing is set to: bit 0 is on, the bits above are the current or limit.

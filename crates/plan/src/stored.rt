@@ -1,13 +1,13 @@
 // Stored plans, read from bytes (document 01, "Plans").
-use crate::codes::count_of;
-use crate::codes::is_known;
-use crate::codes::length_of;
-use crate::codes::width_of;
-use crate::order::Order;
+use orders::codes::count_of;
+use orders::codes::is_known;
+use orders::codes::length_of;
+use orders::codes::width_of;
+use orders::order::Order;
 ghost use mathlib.Core.Path.{_≡_};
 ghost use Prim.Native.Nat.{_+_, _*_, _≤_, _<_, _^_};
 ghost use lib.ListN.{length};
-ghost use Rattle.plan.specs.Codes.{countOf, widthOf};
+ghost use Rattle.orders.specs.Codes.{countOf, widthOf};
 ghost use Rattle.plan.specs.Stored.{byteAt, pairAt, reach, valueAt, fieldsAt, headerFault, ordersFrom, mostOrders, planOf, planNumber, planPlace};
 ghost use Rattle.plan.specs.Judged.{faulty, checkedAt, judgedOf, judgedNumber, judgedPlace};
 

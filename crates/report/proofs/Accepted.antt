@@ -7,10 +7,10 @@ use Prim.Native.Nat.{ℕ, _≤_}
 use borrow.Author.Tests.{le-ltb}
 use lib.ListN.{length}
 use Rattle.head.specs.State.{powerOn}
+use Rattle.orders.specs.Words.{itemsOfAll}
+use Rattle.orders.specs.declared.order.Order.{Order}
 use Rattle.plan.specs.Reading.{settingsRead, logRead}
 use Rattle.plan.specs.Stored.{orders, planOf}
-use Rattle.plan.specs.Words.{itemsOfAll}
-use Rattle.plan.specs.declared.order.Order.{Order}
 use Rattle.head.proofs.Bounds.{power-on-range}
 use Rattle.plan.proofs.Accepted.{accepted-fit}
 use Rattle.head.specs.Busy.{busyTicks, isBusy, atRest}

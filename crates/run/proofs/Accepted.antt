@@ -9,9 +9,9 @@ use lib.Dec.{leb}
 use lib.ListN.{length, take, drop, length-map, length-append}
 use lib.Seq.{take-at}
 use Rattle.head.specs.declared.state.Head.{Head}
+use Rattle.orders.specs.Words.{itemsOfAll}
+use Rattle.orders.specs.declared.order.Order.{Order}
 use Rattle.plan.specs.Stored.{Plan, orders, refused, planOf, ordersIn}
-use Rattle.plan.specs.Words.{itemsOfAll}
-use Rattle.plan.specs.declared.order.Order.{Order}
 use Rattle.plan.proofs.Accepted.{accepted-fit, accepted-few}
 use Rattle.plan.proofs.Logging.{log-few}
 use Rattle.schedule.specs.Schedule.{Timed, Schedule, scheduleFrom, Rising}

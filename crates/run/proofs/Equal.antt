@@ -8,11 +8,11 @@ use Prim.Native.Nat.{ℕ}
 use native.Mathlib.Omega.{arith}
 use lib.ListN.{length}
 use Rattle.head.specs.declared.state.Head.{Head}
+use Rattle.orders.specs.Words.{itemsOfAll}
+use Rattle.orders.specs.declared.order.Order.{Order}
 use Rattle.plan.specs.Read.{readRecord}
 use Rattle.plan.specs.Reading.{settingsRead, logRead}
 use Rattle.plan.specs.Stored.{orders, planOf}
-use Rattle.plan.specs.Words.{itemsOfAll}
-use Rattle.plan.specs.declared.order.Order.{Order}
 use Rattle.plan.proofs.Accepted.{accepted-fit}
 use Rattle.plan.proofs.Recovered.{record-determines}
 use Rattle.schedule.specs.Schedule.{Schedule, scheduleFrom}

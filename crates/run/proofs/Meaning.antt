@@ -16,9 +16,9 @@ use Rattle.head.specs.declared.state.Latches.{Latches}
 use Rattle.head.specs.declared.state.Begun.{Begun}
 use Rattle.head.specs.declared.state.Head.{Head}
 use Rattle.head.proofs.Ticks.{ticks-settings, ticks-latches, ticks-begun}
+use Rattle.orders.specs.Words.{itemsOfAll, sineRegister}
+use Rattle.orders.specs.declared.order.Order.{Order}
 use Rattle.plan.specs.Reading.{Entry, settingsBy, entriesBy, settingsRead, logRead}
-use Rattle.plan.specs.Words.{itemsOfAll, sineRegister}
-use Rattle.plan.specs.declared.order.Order.{Order}
 use Rattle.schedule.proofs.InTurn.{Step, word, wait}
 use Rattle.plan.proofs.Accepted.{AllFit}
 use Rattle.schedule.proofs.Orders.{ByOrder, Meant, by-orders}

@@ -11,7 +11,7 @@ use borrow.Author.Tests.{eq-eqb, ne-eqb}
 use Rattle.head.specs.Word.{answerOf}
 use Rattle.head.specs.Tick.{tickOf, ticksOf}
 use Rattle.head.specs.declared.state.Head.{Head}
-use Rattle.plan.specs.Words.{Item, send, pause}
+use Rattle.orders.specs.Words.{Item, send, pause}
 use Rattle.schedule.specs.Earliest.{delayOf}
 use Rattle.schedule.specs.Schedule.{Timed, readied, spanOf, sent, scheduleFrom}
 use Rattle.run.specs.Run.{wordAt, Moment, answered, next, momentsOf, headAfter}

@@ -14,8 +14,8 @@ use Rattle.words.specs.Codec.{wordOf}
 use Rattle.head.specs.Word.{outOfTurn}
 use Rattle.head.specs.Tick.{ticksOf}
 use Rattle.head.specs.declared.state.Head.{Head}
-use Rattle.plan.specs.Words.{Item, itemsOfAll}
-use Rattle.plan.specs.declared.order.Order.{Order}
+use Rattle.orders.specs.Words.{Item, itemsOfAll}
+use Rattle.orders.specs.declared.order.Order.{Order}
 use Rattle.plan.proofs.Accepted.{AllFit}
 use Rattle.schedule.specs.Earliest.{ready, delayOf}
 use Rattle.schedule.specs.Schedule.{Timed, Schedule, readied, spanOf, sent, scheduleFrom}

@@ -22,8 +22,8 @@ use Rattle.head.specs.Tick.{tickOf, ticksOf}
 use Rattle.head.specs.declared.state.Head.{Head}
 use Rattle.head.proofs.Keep.{word-keeps, tick-keeps}
 use Rattle.head.proofs.Ticks.{ticks-settings}
-use Rattle.plan.specs.Words.{Item, itemsOfAll}
-use Rattle.plan.specs.declared.order.Order.{Order}
+use Rattle.orders.specs.Words.{Item, itemsOfAll}
+use Rattle.orders.specs.declared.order.Order.{Order}
 use Rattle.schedule.specs.Earliest.{isTaken, startWord, ready, delayOf}
 use Rattle.schedule.specs.Schedule.{Timed, readied, spanOf, sent, scheduleFrom}
 use Rattle.schedule.specs.Translate.{fit}

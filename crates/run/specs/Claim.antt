@@ -10,10 +10,10 @@ use Rattle.head.specs.Busy.{isBusy, atRest}
 use Rattle.head.specs.Word.{answerOf}
 use Rattle.head.specs.declared.state.Settings.{Settings}
 use Rattle.head.specs.declared.state.Head.{Head}
+use Rattle.orders.specs.Words.{itemsOfAll}
+use Rattle.orders.specs.declared.order.Order.{Order}
 use Rattle.plan.specs.Reading.{settingsRead, logRead}
 use Rattle.plan.specs.Stored.{orders, mostOrders, planOf}
-use Rattle.plan.specs.Words.{itemsOfAll}
-use Rattle.plan.specs.declared.order.Order.{Order}
 use Rattle.schedule.specs.Earliest.{isTaken, startWord}
 use Rattle.schedule.specs.Clock.{latest}
 use Rattle.schedule.specs.Schedule.{Timed}

@@ -5,7 +5,7 @@ use mathlib.Core.Path.{_≡_}
 use mathlib.Core.Bool.{true, false}
 use mathlib.Core.List.{List, [], _∷_}
 use Rattle.head.specs.declared.state.Head.{Head}
-use Rattle.plan.specs.Words.{Item, send, pause}
+use Rattle.orders.specs.Words.{Item, send, pause}
 use Rattle.schedule.specs.Earliest.{ready}
 use Rattle.schedule.specs.Schedule.{Timed, spanOf}
 

@@ -8,9 +8,9 @@ use native.Mathlib.Omega.{arith}
 use borrow.Author.Tests.{le-leb}
 use lib.ListN.{length}
 use Rattle.head.specs.declared.state.Head.{Head}
+use Rattle.orders.specs.Words.{itemsOfAll}
+use Rattle.orders.specs.declared.order.Order.{Order}
 use Rattle.plan.specs.Stored.{orders, planOf}
-use Rattle.plan.specs.Words.{itemsOfAll}
-use Rattle.plan.specs.declared.order.Order.{Order}
 use Rattle.plan.proofs.Accepted.{accepted-fit, accepted-few}
 use Rattle.schedule.specs.Schedule.{Schedule, scheduleFrom}
 use Rattle.schedule.specs.Translate.{fit, mostWords, scheduleOf, answerOfPlan, translateOf}

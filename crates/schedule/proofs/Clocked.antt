@@ -21,7 +21,7 @@ use Rattle.head.specs.declared.state.Head.{Head}
 use Rattle.head.proofs.Bounds.{bounds}
 use Rattle.head.proofs.Keep.{chosen, word-keeps}
 use Rattle.head.proofs.Ticks.{ticks-settings}
-use Rattle.plan.specs.Words.{Item, send, pause}
+use Rattle.orders.specs.Words.{Item, send, pause}
 use Rattle.schedule.specs.Earliest.{delayOf}
 use Rattle.schedule.specs.Schedule.{Timed, following, readied, spanOf, sent, scheduleFrom}
 use Rattle.schedule.specs.Clock.{clockOf, tickFor, lengthAt, spanAt, clockAfter, clockPaused, clockedFrom, clockThrough, kindIn, Near, longestMotion, longestWord}

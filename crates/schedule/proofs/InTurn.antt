@@ -14,7 +14,7 @@ use Rattle.words.specs.declared.Decoded.the-variants.{Word}
 use Rattle.words.proofs.Codec.{encode-decode, decode-read}
 use Rattle.head.specs.Word.{outOfTurn}
 use Rattle.head.proofs.Bounds.{allowed-most}
-use Rattle.plan.specs.Words.{Item, send, pause}
+use Rattle.orders.specs.Words.{Item, send, pause}
 use Rattle.schedule.specs.Earliest.{startWord, hkWord}
 use Rattle.schedule.specs.Clock.{kindIn}
 

@@ -8,7 +8,7 @@ use native.Mathlib.Numerals.{add-one}
 use native.Mathlib.Omega.{arith}
 use lib.ListN.{length, getD, take, set}
 use lib.Seq.{sets}
-use Rattle.plan.specs.Encoding.{four}
+use Rattle.orders.specs.Encoding.{four}
 use Rattle.schedule.specs.Filled.{upFrom}
 
 -- what is left of the counts

@@ -9,9 +9,9 @@ use borrow.Author.Tests.{eqb-true, le-leb}
 use lib.Dec.{leb, eqb}
 use lib.ListN.{length}
 use Rattle.head.specs.declared.state.Head.{Head}
+use Rattle.orders.specs.Words.{itemsOfAll}
+use Rattle.orders.specs.declared.order.Order.{Order}
 use Rattle.plan.specs.Stored.{Plan, orders, refused, planOf}
-use Rattle.plan.specs.Words.{itemsOfAll}
-use Rattle.plan.specs.declared.order.Order.{Order}
 use Rattle.schedule.specs.Schedule.{Schedule, scheduleFrom}
 use Rattle.schedule.specs.Translate.{fit, scheduleOf, answerOfPlan, translateOf, filled, tickList, wordList, translatedNumber, translatedPlace, translationNumber, translationPlace}
 use Rattle.schedule.specs.declared.Translated.{Translated}

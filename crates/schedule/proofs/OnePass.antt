@@ -8,10 +8,10 @@ use native.Mathlib.Nat.{add-assoc}
 use native.Mathlib.Omega.{arith}
 use lib.ListN.{length}
 use lib.Seq.{sets, length-sets}
-use Rattle.plan.specs.Codes.{fit}
+use Rattle.orders.specs.Codes.{fit}
+use Rattle.orders.specs.Words.{wordsOf, itemsOf, itemsOfAll}
+use Rattle.orders.specs.declared.order.Order.{Order}
 use Rattle.plan.specs.Stored.{Plan, orders, refused, byteAt, orderAt, faultAt, before, ordersFrom, mostOrders}
-use Rattle.plan.specs.Words.{wordsOf, itemsOf, itemsOfAll}
-use Rattle.plan.specs.declared.order.Order.{Order}
 use Rattle.plan.proofs.Accepted.{sound}
 use Rattle.plan.proofs.Laid.{sets-append}
 use Rattle.plan.proofs.Judging.{from-end, from-many, from-fault, from-order}

@@ -12,10 +12,10 @@ use mir.Syntax.{w32}
 use mir.Val.{Fits}
 use Rattle.words.specs.Fields.{steps, coverBits}
 use Rattle.head.specs.Limits.{mirrorTicks, coverStepTicks, hkTicks}
-use Rattle.plan.specs.Codes as code
-use Rattle.plan.specs.Codes.{is, fit}
-use Rattle.plan.specs.Words.{Item, switchData, wordsOf, itemsOf}
-use Rattle.plan.specs.declared.order.Order.{Order}
+use Rattle.orders.specs.Codes as code
+use Rattle.orders.specs.Codes.{is, fit}
+use Rattle.orders.specs.Words.{Item, switchData, wordsOf, itemsOf}
+use Rattle.orders.specs.declared.order.Order.{Order}
 use Rattle.schedule.specs.Clock.{Near, early, tickFor, firstTick, lengthAt, setBy, spanAt, clockAfter, clockPaused, clockedFrom, clockThrough, longestMotion}
 use Rattle.schedule.specs.Filled.{orderTicks, upFrom}
 use Rattle.schedule.specs.Translate.{tickList}

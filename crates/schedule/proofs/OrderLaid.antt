@@ -9,14 +9,14 @@ use native.Mathlib.Omega.{arith}
 use borrow.Author.Tests.{ne-eqb}
 use lib.ListN.{length, take, length-map}
 use Rattle.words.specs.Kinds.{bitsOf}
-use Rattle.plan.specs.Codes as code
-use Rattle.plan.specs.Codes.{fit}
-use Rattle.plan.specs.Words.{Item, send, pause, wordsOf, itemsOf}
-use Rattle.plan.specs.Encoding.{four, wordsCut, listed}
-use Rattle.plan.specs.declared.order.Order.{Order}
-use Rattle.plan.specs.declared.encoding.Words.{Words}
-use Rattle.plan.proofs.Fit.{fit-known}
-use Rattle.plan.proofs.OrderWords.{words-few, fit-cut}
+use Rattle.orders.specs.Codes as code
+use Rattle.orders.specs.Codes.{fit}
+use Rattle.orders.specs.Words.{Item, send, pause, wordsOf, itemsOf}
+use Rattle.orders.specs.Encoding.{four, wordsCut, listed}
+use Rattle.orders.specs.declared.order.Order.{Order}
+use Rattle.orders.specs.declared.encoding.Words.{Words}
+use Rattle.orders.proofs.Fit.{fit-known}
+use Rattle.orders.proofs.OrderWords.{words-few, fit-cut}
 use Rattle.schedule.specs.Schedule.{Timed}
 use Rattle.schedule.specs.Clock.{kindIn, clockAfter, clockedFrom, clockThrough}
 use Rattle.schedule.specs.Translate.{wordList, tickList, wordsIn}

@@ -14,10 +14,10 @@ use Rattle.words.specs.Kinds.{rows as kindRows, least, greatest, allowed, mostS
 use Rattle.words.specs.Codec.{wordOf}
 use Rattle.words.proofs.Tests.{and-left, and-right}
 use Rattle.head.specs.Word.{outOfTurn}
-use Rattle.plan.specs.Codes as code
-use Rattle.plan.specs.Codes.{Range, rows, rowOf, known, within, related, fieldsOf, fieldsFit, fit}
-use Rattle.plan.specs.Words.{Item, send, sineRegister, switchData, wordsOf, itemsOf, itemsOfAll}
-use Rattle.plan.specs.declared.order.Order.{Order}
+use Rattle.orders.specs.Codes as code
+use Rattle.orders.specs.Codes.{Range, rows, rowOf, known, within, related, fieldsOf, fieldsFit, fit}
+use Rattle.orders.specs.Words.{Item, send, sineRegister, switchData, wordsOf, itemsOf, itemsOfAll}
+use Rattle.orders.specs.declared.order.Order.{Order}
 use Rattle.plan.proofs.Accepted.{AllFit}
 use Rattle.schedule.proofs.InTurn.{Step, word, wait, InTurn, empty, given, paused, countAfter, in-turn-append}
 

@@ -18,10 +18,10 @@ use Rattle.head.specs.Range.{inRange}
 use Rattle.head.specs.Tick.{ticksOf}
 use Rattle.head.specs.declared.state.Head.{Head}
 use Rattle.head.proofs.Bounds.{bounds, length-bounds}
-use Rattle.plan.specs.Codes as code
+use Rattle.orders.specs.Codes as code
+use Rattle.orders.specs.Words.{Item, itemsOf, itemsOfAll}
+use Rattle.orders.specs.declared.order.Order.{Order}
 use Rattle.plan.specs.Stored.{mostOrders}
-use Rattle.plan.specs.Words.{Item, itemsOf, itemsOfAll}
-use Rattle.plan.specs.declared.order.Order.{Order}
 use Rattle.schedule.specs.Earliest.{delayOf, startWord, hkWord}
 use Rattle.schedule.specs.Schedule.{Timed, readied, spanOf, sent, scheduleFrom, Rising}
 use Rattle.words.proofs.Allowed.{allowed-bits}

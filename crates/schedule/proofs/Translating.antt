@@ -13,9 +13,9 @@ use lib.Seq.{sets, paste, take-at}
 use Rattle.head.specs.Range.{inRange}
 use Rattle.head.specs.Busy.{isBusy, atRest}
 use Rattle.head.specs.declared.state.Head.{Head}
+use Rattle.orders.specs.Words.{itemsOfAll, wordsOf}
+use Rattle.orders.specs.declared.order.Order.{Order}
 use Rattle.plan.specs.Stored.{Plan, orders, refused, headerFault, ordersFrom, mostOrders, planOf, ordersIn}
-use Rattle.plan.specs.Words.{itemsOfAll, wordsOf}
-use Rattle.plan.specs.declared.order.Order.{Order}
 use Rattle.plan.proofs.Accepted.{accepted-fit, accepted-few}
 use Rattle.plan.proofs.Laid.{sets-front}
 use Rattle.plan.proofs.Judging.{plan-header, plan-orders}

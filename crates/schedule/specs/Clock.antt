@@ -10,11 +10,11 @@ use Rattle.words.specs.Kinds as kind
 use Rattle.words.specs.Kinds.{kindOf, identifier, bitsOf}
 use Rattle.head.specs.Limits.{mirrorTicks, coverStepTicks, hkTicks, lengthBy, longest}
 use Rattle.head.specs.declared.state.Head.{Head}
-use Rattle.plan.specs.Codes as code
-use Rattle.plan.specs.Codes.{is}
+use Rattle.orders.specs.Codes as code
+use Rattle.orders.specs.Codes.{is}
+use Rattle.orders.specs.Words.{Item, send, pause}
+use Rattle.orders.specs.declared.order.Order.{Order}
 use Rattle.plan.specs.Stored.{mostOrders}
-use Rattle.plan.specs.Words.{Item, send, pause}
-use Rattle.plan.specs.declared.order.Order.{Order}
 use Rattle.schedule.specs.Schedule.{Schedule, following}
 use Rattle.schedule.specs.declared.clock.Clock.{Clock}
 

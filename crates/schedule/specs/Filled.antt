@@ -5,8 +5,8 @@ use Prim.Native.Nat.{ℕ, zero, suc, _+_}
 use mathlib.Core.Path.{_≡_}
 use lib.ListN.{length}
 use lib.Seq.{sets}
-use Rattle.plan.specs.Words.{wordsOf, itemsOf, itemsOfAll}
-use Rattle.plan.specs.declared.order.Order.{Order}
+use Rattle.orders.specs.Words.{wordsOf, itemsOf, itemsOfAll}
+use Rattle.orders.specs.declared.order.Order.{Order}
 use Rattle.plan.specs.Stored.{Plan, orders, refused}
 use Rattle.schedule.specs.declared.Translated.{Translated}
 use Rattle.schedule.specs.Schedule.{Schedule}

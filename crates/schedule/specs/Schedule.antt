@@ -8,7 +8,7 @@ use Rattle.head.specs.Limits.{lengthOf, hkTicks}
 use Rattle.head.specs.Word.{answerOf}
 use Rattle.head.specs.Tick.{ticksOf}
 use Rattle.head.specs.declared.state.Head.{Head}
-use Rattle.plan.specs.Words.{Item, send, pause}
+use Rattle.orders.specs.Words.{Item, send, pause}
 use Rattle.schedule.specs.Earliest.{startWord, hkWord, delayOf}
 
 pub record Timed : Type 0 where

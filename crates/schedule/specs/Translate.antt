@@ -8,9 +8,9 @@ use lib.ListN.{length, take, drop}
 use Rattle.head.specs.Busy.{isBusy, atRest}
 use Rattle.head.specs.Range.{inRange}
 use Rattle.head.specs.declared.state.Head.{Head}
+use Rattle.orders.specs.Words.{itemsOfAll}
+use Rattle.orders.specs.declared.encoding.Words.{Words}
 use Rattle.plan.specs.Stored.{Plan, orders, refused, mostOrders, planOf, planNumber, planPlace}
-use Rattle.plan.specs.Words.{itemsOfAll}
-use Rattle.plan.specs.declared.encoding.Words.{Words}
 use Rattle.schedule.specs.Schedule.{Timed, Schedule, scheduleFrom}
 use Rattle.schedule.specs.declared.Translated.{Translated}
 use Rattle.schedule.specs.declared.Translated.the-variants.{Done, Refused, Short}

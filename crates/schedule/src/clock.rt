@@ -1,22 +1,22 @@
 // The clock of a translation.
 use head::apply::acquisition_ticks;
 use head::state::Head;
-use plan::codes::CCD_TIMES;
-use plan::codes::COVER;
-use plan::codes::EXPOSE;
-use plan::codes::HOUSEKEEPING;
-use plan::codes::IR_TIMES;
-use plan::codes::MIRROR;
-use plan::codes::MOTOR;
-use plan::codes::WAIT;
-use plan::codes::WINDOW_MODE;
-use plan::order::Order;
+use orders::codes::CCD_TIMES;
+use orders::codes::COVER;
+use orders::codes::EXPOSE;
+use orders::codes::HOUSEKEEPING;
+use orders::codes::IR_TIMES;
+use orders::codes::MIRROR;
+use orders::codes::MOTOR;
+use orders::codes::WAIT;
+use orders::codes::WINDOW_MODE;
+use orders::order::Order;
 ghost use mathlib.Core.Path.{_≡_};
 ghost use mathlib.Core.Bool.{true};
 ghost use Prim.Native.Nat.{max};
 ghost use lib.ListN.{length};
-ghost use Rattle.plan.specs.Codes.{fit};
-ghost use Rattle.plan.specs.Words.{wordsOf, itemsOf};
+ghost use Rattle.orders.specs.Codes.{fit};
+ghost use Rattle.orders.specs.Words.{wordsOf, itemsOf};
 ghost use Rattle.schedule.specs.Clock.{clockOf, clockThrough, firstTick, lengthAt, setBy, Near, early};
 
 // COS L, which starts the mirror, goes so many ticks after the first word of its order.

@@ -1,15 +1,15 @@
 // The words of orders laid into two lists, each with its tick.
 use crate::clock::Clock;
-use plan::encoding::Words;
-use plan::order::Order;
+use orders::encoding::Words;
+use orders::order::Order;
 ghost use mathlib.Core.Path.{_≡_};
 ghost use mathlib.Core.Bool.{true};
 ghost use mathlib.Core.List.{[], _∷_};
 ghost use Prim.Native.Nat.{_+_, _≤_, _<_};
 ghost use lib.ListN.{length, set};
 ghost use lib.Seq.{sets};
-ghost use Rattle.plan.specs.Codes.{fit};
-ghost use Rattle.plan.specs.Words.{wordsOf, itemsOf};
+ghost use Rattle.orders.specs.Codes.{fit};
+ghost use Rattle.orders.specs.Words.{wordsOf, itemsOf};
 ghost use Rattle.schedule.specs.Clock.{Near, early, latest, clockThrough};
 ghost use Rattle.schedule.specs.Filled.{orderTicks, upFrom};
 ghost use Rattle.schedule.specs.Translate.{wordsIn};

@@ -10,9 +10,9 @@ use Rattle.head.specs.Range.{allPass, registerTests, latchTests, flagTests, mot
 use Rattle.head.specs.Apply.{after, actOf}
 use Rattle.head.specs.Word.{outOfTurn, onWord, onDecoded, answerOf}
 use Rattle.head.specs.Tick.{taskOf, tickOf, ticksOf, passed}
-use Rattle.plan.specs.Codes.{countOf, widthOf, known, lengthOf as orderLength, within, related, fieldsFit}
+use Rattle.orders.specs.Codes.{countOf, widthOf, known, lengthOf as orderLength, within, related, fieldsFit}
+use Rattle.orders.specs.Words.{sineRegister, wordsOf, itemsOf, itemsOfAll}
 use Rattle.plan.specs.Stored.{fieldAt, orderAt, faultAt, headerFault, ordersFrom, planOf}
-use Rattle.plan.specs.Words.{sineRegister, wordsOf, itemsOf, itemsOfAll}
 use Rattle.head.specs.Busy.{busyTicks, isBusy, atRest}
 use Rattle.schedule.specs.Earliest.{isTaken, ready, delayWithin, delayOf}
 use Rattle.schedule.specs.Schedule.{readied, spanOf, sent, scheduleFrom}

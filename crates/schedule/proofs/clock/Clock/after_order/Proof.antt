@@ -3,7 +3,7 @@
 use native.Mathlib.Omega.{arith}
 use borrow.Author.Needs.{needs}
 use borrow.Author.Tests.{eq-eqb, ne-eqb}
-use Rattle.plan.specs.Words.{switchData}
+use Rattle.orders.specs.Words.{switchData}
 use Rattle.schedule.specs.Clock.{early, lengthAt, setBy}
 use Rattle.schedule.proofs.Clocked.{length-most}
 use Rattle.schedule.proofs.OrderClocked.{orderSpan, orderClock, clock-is, sum-fits}

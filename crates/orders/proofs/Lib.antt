@@ -1,0 +1,4 @@
+pub mod Rows
+pub mod Fit
+pub mod OrderWords
+pub mod Sending
