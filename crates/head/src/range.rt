@@ -9,7 +9,7 @@ ghost use Rattle.head.specs.ByRow.{most, atMost, received, lasting};
 // How many numbers of a row have a limit of their own: all but the data of a begun set.
 const LIMITS: usize = 32;
 
-// The most of each.
+// The limit of each.
 const MOST: [u16; 32] = [
     Head::MOST_BIT, // detector
     Head::MOST_BIT, // mode
@@ -45,14 +45,14 @@ const MOST: [u16; 32] = [
     Head::MOST_BEGUN, // count
 ];
 
-// How far a number lies above its most; 0 where it does not.
+// How far a number lies above its limit; 0 where it does not.
 fn over(n: u16, most: u16) -> u16
     ensures { λ r. ⌜ r ≡ n - most ⌝ }
 {
     if most < n { n - most } else { 0 }
 }
 
-// Whether no number of a row lies above its most. All that they lie above are joined, and compared once.
+// Whether no number of a row lies above its limit: how far each does is joined, and compared with 0 once.
 fn within(row: [u16; 35]) -> bool
     ensures { λ r. ⌜ r ≡ atMost row most ⌝ }
 {
@@ -98,9 +98,16 @@ impl Head {
         ensures { λ r. ⌜ r ≡ inRange self ⌝ }
     {
         let row = self.numbers();
+        let delay = row[6];
+        let task = row[27];
+        let busy = row[28];
+        let count = row[31];
+        let sinm = row[32];
+        let sinl = row[33];
+        let cosm = row[34];
         within(row)
-            & (Head::LEAST_CCD_DELAY <= row[6])
-            & is_received(row[31], row[32], row[33], row[34])
-            & is_lasting(row[27], row[28])
+            & (Head::LEAST_CCD_DELAY <= delay)
+            & is_received(count, sinm, sinl, cosm)
+            & is_lasting(task, busy)
     }
 }
