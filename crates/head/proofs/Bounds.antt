@@ -11,7 +11,7 @@ use Rattle.words.specs.Kinds as kind
 use Rattle.words.specs.Fields.{steps}
 use Rattle.words.specs.Kinds.{rows, least, greatest, allowed, mostSteps}
 use Rattle.words.proofs.Tests.{and-left, and-right}
-use Rattle.head.specs.Limits.{hkTicks, mirrorTicks, coverStepTicks, longest, lengthBy, lengthOf, readoutOf}
+use Rattle.head.specs.Limits.{hkTicks, mirrorTicks, coverStepTicks, shortest, longest, lengthBy, lengthOf, fullReadout, reducedReadout, readoutOf}
 use Rattle.head.specs.State.{powerOn, noTask, acquisition, housekeeping}
 use Rattle.head.specs.Range.{allPass, registerTests, latchTests, flagTests, motionTests, begunTests, place, workInRange, inRange}
 use Rattle.head.specs.declared.state.Settings.{Settings}
@@ -284,20 +284,20 @@ power-on-range = refl
 
 -- an acquisition's length lies in 156..4238
 module _ (r : Settings) where
-  pub readout-bounds : (60 ≤ readoutOf (r .mode)) × (readoutOf (r .mode) ≤ 140)
+  pub readout-bounds : (reducedReadout ≤ readoutOf (r .mode)) × (readoutOf (r .mode) ≤ fullReadout)
   unfolding readoutOf
   readout-bounds = go (eqb (r .mode) 0)
     where
-      go : (b : Bool) → (60 ≤ cond b 140 60) × (cond b 140 60 ≤ 140)
+      go : (b : Bool) → (reducedReadout ≤ cond b fullReadout reducedReadout) × (cond b fullReadout reducedReadout ≤ fullReadout)
       go true = omega arith
       go false = omega arith
 
-  pub length-bounds : RegisterBounds r → (156 ≤ lengthOf r) × (lengthOf r ≤ longest)
+  pub length-bounds : RegisterBounds r → (shortest ≤ lengthOf r) × (lengthOf r ≤ longest)
   unfolding lengthOf
   length-bounds h = let b = readout-bounds in omega arith
 
 -- both ends are reached: all times at their least with the reduced window, and all at their largest
-pub shortest-reached : lengthBy 1 (least kind.irDelay) (least kind.irExpo) (least kind.ccdDelay) (least kind.ccdExpo) ≡ 156
+pub shortest-reached : lengthBy 1 (least kind.irDelay) (least kind.irExpo) (least kind.ccdDelay) (least kind.ccdExpo) ≡ shortest
 unfolding lengthBy readoutOf least rows
 shortest-reached = refl
 

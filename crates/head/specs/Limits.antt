@@ -25,8 +25,14 @@ abbrev pub ccdReadout : ℕ
 ccdReadout = 145
 
 -- R: 140 full, 60 reduced.
+abbrev pub fullReadout : ℕ
+fullReadout = 140
+
+abbrev pub reducedReadout : ℕ
+reducedReadout = 60
+
 unfoldable pub readoutOf : ℕ → ℕ
-readoutOf mode = cond (eqb mode 0) 140 60
+readoutOf mode = cond (eqb mode 0) fullReadout reducedReadout
 
 -- The 1 in an acquisition's length: the repetition must be strictly longer.
 abbrev pub extraTicks : ℕ
@@ -45,6 +51,9 @@ lengthOf s = lengthBy (s .mode) (s .irdelay) (s .irexpo) (s .ccddelay) (s .ccdex
 abbrev pub mostTime : ℕ
 mostTime = 0x3FF
 
--- It lies in 156..4238: the longest has both of the CCD's times at their largest.
+-- It lies in 156..4238: the shortest has the CCD's least delay, and the longest both of its times at their largest.
+abbrev pub shortest : ℕ
+shortest = 156
+
 abbrev pub longest : ℕ
 longest = extraTicks + (stepTicks * (mostTime + mostTime) + ccdReadout)

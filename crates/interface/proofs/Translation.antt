@@ -15,8 +15,9 @@ use Rattle.orders.specs.declared.order.Order.{Order}
 use Rattle.orders.specs.Words.{itemsOfAll}
 use Rattle.plan.specs.Stored.{Plan, orders, refused, byteAt, pairAt, orderAt, faultAt, before, headerFault, ordersFrom, mostOrders, planOf}
 use Rattle.plan.proofs.Accepted.{AllFit, accepted-fit, accepted-few}
+use Rattle.schedule.specs.Clock.{latest}
 use Rattle.schedule.specs.Schedule.{Schedule, scheduleFrom}
-use Rattle.schedule.specs.Translate.{fit, scheduleOf, answerOfPlan, translateOf, filled, wordList, tickList, translatedNumber}
+use Rattle.schedule.specs.Translate.{fit, mostWords, scheduleOf, answerOfPlan, translateOf, filled, wordList, tickList, translatedNumber}
 use Rattle.schedule.specs.declared.Translated.{Translated}
 use Rattle.schedule.specs.declared.Translated.the-variants.{Done, Refused, Short}
 use Rattle.schedule.proofs.Plans.{plan-count, plan-end}
@@ -79,10 +80,10 @@ module _ (bs : List ℕ) (high : byteAt bs 1 < 256) (low : byteAt bs 2 < 256) wh
         all : AllFit os
         all = accepted-fit bs os e
 
-        few : length os ≤ 64
+        few : length os ≤ mostOrders
         few = accepted-few bs os e
 
-        go : (x : Bool) → length (sch .list) ≤ 256 → sch .end ≤ 4194240 → Small (cond x (Done (length (sch .list)) (sch .end)) (Short (length (sch .list))))
+        go : (x : Bool) → length (sch .list) ≤ mostWords → sch .end ≤ latest → Small (cond x (Done (length (sch .list)) (sch .end)) (Short (length (sch .list))))
         go true n m = (omega arith, omega arith)
         go false n m = (omega arith, omega arith)
 

@@ -7,6 +7,7 @@ use Prim.Native.Nat.{ℕ, _≤_}
 use native.Mathlib.Nat.{div-add-mod'}
 use native.Mathlib.Omega.{arith}
 use Rattle.words.specs.Fields.{direction, wave, sensors, steps, coverBits}
+use Rattle.words.specs.Kinds.{mostSteps}
 use Rattle.head.specs.Range.{inRange}
 use Rattle.head.specs.State.{noFlags, noTask}
 use Rattle.head.specs.Apply.{after, settingsAfter, latchesAfter, begunAfter, actOf}
@@ -82,7 +83,7 @@ logged-append x (word k b ∷ ms) ns =
 logged-append x (wait n ∷ ms) ns = logged-append x ms ns
 
 -- the fields of a cover word's data
-module _ (a b c d : ℕ) (p : a ≤ 1) (q : b ≤ 1) (r : c ≤ 1) (s : d ≤ 81) where
+module _ (a b c d : ℕ) (p : a ≤ 1) (q : b ≤ 1) (r : c ≤ 1) (s : d ≤ mostSteps) where
   cover-direction : direction (coverBits a b c d) ≡ a
   cover-direction = omega arith
 

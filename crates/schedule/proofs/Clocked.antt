@@ -12,7 +12,7 @@ use Rattle.words.specs.Kinds as kind
 use Rattle.words.specs.Kinds.{allowed, bitsOf}
 use Rattle.words.specs.Codec.{wordOf}
 use Rattle.head.specs.Range.{inRange}
-use Rattle.head.specs.Limits.{mirrorTicks, coverStepTicks, hkTicks, stepTicks, ccdReadout, readoutOf, lengthOf, longest}
+use Rattle.head.specs.Limits.{mirrorTicks, coverStepTicks, hkTicks, stepTicks, extraTicks, ccdReadout, fullReadout, reducedReadout, readoutOf, mostTime, lengthOf, longest}
 use Rattle.head.specs.Apply.{after, settingsAfter, motionAfter}
 use Rattle.head.specs.Word.{outOfTurn}
 use Rattle.head.specs.Tick.{ticksOf}
@@ -188,7 +188,8 @@ module _ (n : ℕ) (c : Clock) (h : Near n c) where
   unfolding lengthAt readoutOf
   length-most = go (eqb (c .mode) 0)
     where
-      go : (x : Bool) → 1 + max (stepTicks * (c .ccddelay + c .ccdexpo) + ccdReadout) (stepTicks * (c .irdelay + c .irexpo) + cond x 140 60) ≤ longest
+      go : (x : Bool)
+          → extraTicks + max (stepTicks * (c .ccddelay + c .ccdexpo) + ccdReadout) (stepTicks * (c .irdelay + c .irexpo) + cond x fullReadout reducedReadout) ≤ longest
       go true = omega arith
       go false = omega arith
 
@@ -213,10 +214,10 @@ module _ (n : ℕ) (c : Clock) (h : Near n c) where
             chosen (eqb k kind.cosL || (eqb k kind.switch && eqb b 0)) (tickFor c k + mirrorTicks) (c .mirror) (n + longestWord + longestMotion) (λ e. omega arith)
             (omega arith);
         cover = chosen (eqb k kind.cover) (tickFor c k + coverStepTicks * steps b) (c .cover) (n + longestWord + longestMotion) (λ e. omega arith) (omega arith);
-        irdelay = chosen (eqb k kind.irDelay) b (c .irdelay) 1023 (λ e. omega arith) (h .irdelay);
-        irexpo = chosen (eqb k kind.irExpo) b (c .irexpo) 1023 (λ e. omega arith) (h .irexpo);
-        ccddelay = chosen (eqb k kind.ccdDelay) b (c .ccddelay) 1023 (λ e. omega arith) (h .ccddelay);
-        ccdexpo = chosen (eqb k kind.ccdExpo) b (c .ccdexpo) 1023 (λ e. omega arith) (h .ccdexpo);
+        irdelay = chosen (eqb k kind.irDelay) b (c .irdelay) mostTime (λ e. omega arith) (h .irdelay);
+        irexpo = chosen (eqb k kind.irExpo) b (c .irexpo) mostTime (λ e. omega arith) (h .irexpo);
+        ccddelay = chosen (eqb k kind.ccdDelay) b (c .ccddelay) mostTime (λ e. omega arith) (h .ccddelay);
+        ccdexpo = chosen (eqb k kind.ccdExpo) b (c .ccdexpo) mostTime (λ e. omega arith) (h .ccdexpo);
       }
 
 -- items, and then others

@@ -11,12 +11,13 @@ use lib.ListN.{length}
 use mir.Syntax.{w32}
 use mir.Val.{Fits}
 use Rattle.words.specs.Fields.{steps, coverBits}
+use Rattle.words.specs.Kinds.{mostSteps}
 use Rattle.head.specs.Limits.{mirrorTicks, coverStepTicks, hkTicks}
 use Rattle.orders.specs.Codes as code
 use Rattle.orders.specs.Codes.{is, fit}
 use Rattle.orders.specs.Words.{Item, switchData, wordsOf, itemsOf}
 use Rattle.orders.specs.declared.order.Order.{Order}
-use Rattle.schedule.specs.Clock.{Near, early, tickFor, firstTick, lengthAt, setBy, spanAt, clockAfter, clockPaused, clockedFrom, clockThrough, longestMotion}
+use Rattle.schedule.specs.Clock.{Near, early, tickFor, firstTick, lengthAt, setBy, spanAt, clockAfter, clockPaused, clockedFrom, clockThrough, longestMotion, longestOrder}
 use Rattle.schedule.specs.Filled.{orderTicks, upFrom}
 use Rattle.schedule.specs.Translate.{tickList}
 use Rattle.schedule.specs.declared.clock.Clock.{Clock}
@@ -108,7 +109,7 @@ by-codes =
       wait = λ a b c d p k. (refl, refl);
     }
   where
-    cover-steps : (a b c d : ℕ) → d ≤ 81 → steps (coverBits a b c d) ≡ d
+    cover-steps : (a b c d : ℕ) → d ≤ mostSteps → steps (coverBits a b c d) ≡ d
     cover-steps a b c d h = omega arith
 
 module _ (o : Order) (f : fit o ≡ true) (c : Clock) where
@@ -124,5 +125,5 @@ module _ (c : Clock) (near : Near early c) (k t : ℕ) (tick : t ≡ firstTick c
   unfolding firstTick
   first-near = rw tick (tick-near early c near _)
 
-  pub sum-fits : (n : ℕ) → n ≤ 2000000 → Fits w32 (t + n)
+  pub sum-fits : (n : ℕ) → n ≤ coverStepTicks * longestOrder → Fits w32 (t + n)
   sum-fits n h = record { fits = omega (arith, first-near) }

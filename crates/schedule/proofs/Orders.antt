@@ -106,7 +106,7 @@ pub record ByOrder (P : Order → List Step → Type 0) : Type 0 where
       → P (order code.mirror a b c d)
       (word kind.sinM (sineRegister a / 256) ∷ word kind.sinL (sineRegister a % 256) ∷ word kind.cosM (b / 256) ∷ word kind.cosL (b % 256) ∷ [])
   pub motor : (a b c d : ℕ) → P (order code.motor a b c d) (word kind.switch (switchData a) ∷ [])
-  pub cover : (a b c d : ℕ) → a ≤ 1 → b ≤ 1 → c ≤ 1 → d ≤ 81
+  pub cover : (a b c d : ℕ) → a ≤ 1 → b ≤ 1 → c ≤ 1 → d ≤ mostSteps
       → P (order code.cover a b c d) (word kind.cover (coverBits a b c d) ∷ [])
   pub expose : (a b c d : ℕ) → P (order code.expose a b c d) (word kind.start 0 ∷ [])
   pub housekeeping : (a b c d : ℕ) → P (order code.housekeeping a b c d) (word kind.hk 0 ∷ [])

@@ -8,7 +8,7 @@ use lib.Dec.{eqb}
 use Rattle.words.specs.Fields.{steps}
 use Rattle.words.specs.Kinds as kind
 use Rattle.words.specs.Kinds.{kindOf, identifier, bitsOf}
-use Rattle.head.specs.Limits.{mirrorTicks, coverStepTicks, hkTicks, lengthBy, longest}
+use Rattle.head.specs.Limits.{mirrorTicks, coverStepTicks, hkTicks, lengthBy, mostTime, longest}
 use Rattle.head.specs.declared.state.Head.{Head}
 use Rattle.orders.specs.Codes as code
 use Rattle.orders.specs.Codes.{is}
@@ -35,10 +35,10 @@ pub record Near (n : ℕ) (c : Clock) : Type 0 where
   pub now : c .now ≤ n
   pub mirror : c .mirror ≤ n + longestMotion
   pub cover : c .cover ≤ n + longestMotion
-  pub irdelay : c .irdelay ≤ 1023
-  pub irexpo : c .irexpo ≤ 1023
-  pub ccddelay : c .ccddelay ≤ 1023
-  pub ccdexpo : c .ccdexpo ≤ 1023
+  pub irdelay : c .irdelay ≤ mostTime
+  pub irexpo : c .irexpo ≤ mostTime
+  pub ccddelay : c .ccddelay ≤ mostTime
+  pub ccdexpo : c .ccdexpo ≤ mostTime
 
 -- The end is the last clock, at most 4,194,240.
 abbrev pub latest : ℕ
