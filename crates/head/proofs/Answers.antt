@@ -11,6 +11,7 @@ use Rattle.words.specs.Codec.{decodeOf}
 use Rattle.words.specs.declared.Decoded.{Decoded}
 use Rattle.words.specs.declared.Decoded.the-variants.{Word, Unknown, OutOfRange}
 use Rattle.head.specs.Range.{inRange}
+use Rattle.head.specs.Busy.{isBusy}
 use Rattle.head.specs.State.{noneBegun}
 use Rattle.head.specs.Flags.{timeBoth, timeIr, wordBoth, wordVis, wordIr, scanned, mirrorWord, forVis, forBoth, outOfRangeFlags}
 use Rattle.head.specs.Apply.{after, actOf}
@@ -43,7 +44,7 @@ pub data Kept (old : Begun) : Begun → Type 0 where
 -- the checks that a word of kind k with data b has passed
 pub record Passed (s : Head) (w k b : ℕ) : Type 0 where
   pub ranged : inRange s ≡ true
-  pub free : (ltb 0 (s .work .busy) && not (eqb w stopWord)) ≡ false
+  pub free : (isBusy s && not (eqb w stopWord)) ≡ false
   pub decoded : decodeOf w ≡ Word k b
   pub still : (eqb k kind.cover && ltb 0 (s .motion .cover)) ≡ false
   pub turn : outOfTurn (s .begun .count) k ≡ false
@@ -60,7 +61,7 @@ module _ (s : Head) (w : ℕ) where
   kept true = dropped
   kept false = same
 
-  module _ (ranged : inRange s ≡ true) (free : (ltb 0 (s .work .busy) && not (eqb w stopWord)) ≡ false) where
+  module _ (ranged : inRange s ≡ true) (free : (isBusy s && not (eqb w stopWord)) ≡ false) where
     on-word : (k b : ℕ) → decodeOf w ≡ Word k b → Answer s w (onWord s k b)
     unfolding onWord
     on-word k b e = go (eqb k kind.cover && ltb 0 (s .motion .cover)) refl (outOfTurn (s .begun .count) k) refl
@@ -82,9 +83,9 @@ module _ (s : Head) (w : ℕ) where
 
   pub answer : Answer s w (answerOf s w)
   unfolding answerOf
-  answer = go (inRange s) refl (ltb 0 (s .work .busy) && not (eqb w stopWord)) refl
+  answer = go (inRange s) refl (isBusy s && not (eqb w stopWord)) refl
     where
-      go : (x : Bool) → inRange s ≡ x → (y : Bool) → (ltb 0 (s .work .busy) && not (eqb w stopWord)) ≡ y
+      go : (x : Bool) → inRange s ≡ x → (y : Bool) → (isBusy s && not (eqb w stopWord)) ≡ y
           → Answer s w
           (cond (not x) (ignored s (s .flags) (s .begun) State)
           (cond y (ignored s (timeBoth (s .flags)) (s .begun) Busy) (onDecoded s (decodeOf w))))

@@ -36,7 +36,7 @@ module _ (s : Head) where
 
   -- an idle head looks at what the word is
   pub idle-answer : (w : ℕ) → inRange s ≡ true → isBusy s ≡ false → answerOf s w ≡ onDecoded s (decodeOf w)
-  unfolding answerOf isBusy busyTicks
+  unfolding answerOf
   idle-answer w h e = rw (h, e)
 
   -- what a word of kind k leaves

@@ -19,6 +19,7 @@ use Rattle.head.proofs.Bounds.{allowed-most}
 use Rattle.words.proofs.Allowed.{allowed-bits}
 use Rattle.head.specs.Grid.{phaseOf, applies}
 use Rattle.head.specs.Range.{inRange}
+use Rattle.head.specs.Busy.{isBusy}
 use Rattle.head.specs.State.{noneBegun}
 use Rattle.head.specs.Flags.{scanned}
 use Rattle.head.specs.Apply.{after, actOf}
@@ -60,16 +61,16 @@ stop-alone w k b h e = go (eqb w stopWord) refl (eqb k kind.stop) refl
 -- a finding that is no word is answered by the phase alone; it is not C000
 pub by-finding : (s : Head) (w : ℕ) (d : Decoded) → inRange s ≡ true → d ≡ decodeOf w → isWord d ≡ false → byFinding s d ≡ answerOf s w
 unfolding byFinding answerOf isWord
-by-finding s w d ok e h = go (ltb 0 (s .work .busy)) refl (eqb w stopWord) refl
+by-finding s w d ok e h = go (isBusy s) refl (eqb w stopWord) refl
   where
-    go : (x : Bool) → ltb 0 (s .work .busy) ≡ x → (y : Bool) → eqb w stopWord ≡ y → byFinding s d ≡ answerOf s w
+    go : (x : Bool) → isBusy s ≡ x → (y : Bool) → eqb w stopWord ≡ y → byFinding s d ≡ answerOf s w
     go false p y q = rw (ok, p, ← e)
     go true p false q = rw (ok, p, q)
     go true p true q = absurd (false≢true (sym h ∙ ap isWord (e ∙ ap decodeOf (eqb-true w stopWord q) ∙ stop-decoded)))
 
 pub by-grid : (s : Head) (w k b : ℕ) → inRange s ≡ true → w < 65536 → Word k b ≡ decodeOf w → byGrid s k b ≡ answerOf s w
 unfolding byGrid answerOf onDecoded onWord phaseOf applies waiting outOfTurn
-by-grid s w k b ok h e = go (ltb 0 (s .work .busy)) refl (ltb 0 (s .motion .cover)) refl (eqb k kind.stop) refl (eqb k kind.cover) refl
+by-grid s w k b ok h e = go (isBusy s) refl (ltb 0 (s .motion .cover)) refl (eqb k kind.stop) refl (eqb k kind.cover) refl
   where
     known : ltb k 28 ≡ true
     known = lt-ltb k 28 (decode-read w k b (sym e) .known)
@@ -77,7 +78,7 @@ by-grid s w k b ok h e = go (ltb 0 (s .work .busy)) refl (ltb 0 (s .motion .cove
     alone : eqb w stopWord ≡ eqb k kind.stop
     alone = stop-alone w k b h (sym e)
 
-    go : (busy : Bool) → ltb 0 (s .work .busy) ≡ busy → (moving : Bool) → ltb 0 (s .motion .cover) ≡ moving
+    go : (busy : Bool) → isBusy s ≡ busy → (moving : Bool) → ltb 0 (s .motion .cover) ≡ moving
         → (stop : Bool) → eqb k kind.stop ≡ stop → (cover : Bool) → eqb k kind.cover ≡ cover → byGrid s k b ≡ answerOf s w
     go true p moving q true r cover t = rw (ok, alone, ← e, p, eqb-true k kind.stop r)
     go true p moving q false r cover t = rw (ok, alone, p, known, r)

@@ -12,6 +12,7 @@ use Rattle.words.specs.declared.Decoded.{Decoded}
 use Rattle.words.specs.declared.Decoded.the-variants.{Word, Unknown, OutOfRange}
 use Rattle.words.proofs.Codec.{decode-encode, decode-read}
 use Rattle.head.specs.Range.{inRange}
+use Rattle.head.specs.Busy.{busyTicks, isBusy}
 use Rattle.head.specs.Apply.{actOf}
 use Rattle.head.specs.Word.{outOfTurn, onWord, onDecoded, answerOf, stopWord}
 use Rattle.head.specs.ByGrid.{isWord, byGrid, byFinding}
@@ -75,7 +76,7 @@ act-number w k b h e = rw (← decode-read w k b e .kind) (go (eqb k kind.start)
 pub word-number : (s : Head) (w : ℕ) → w < 65536 → outcomeNumber (answerOf s w .outcome) ≡ answerNumber s w
 unfolding answerOf answerNumber decodeOf judged onDecoded onWord outcomeNumber causeNumber
 word-number s w h =
-    go (inRange s) refl (ltb 0 (s .work .busy) && not (eqb w stopWord)) refl (ltb k kinds) refl (allowed k b) refl
+    go (inRange s) refl (isBusy s && not (eqb w stopWord)) refl (ltb k kinds) refl (allowed k b) refl
     (eqb k kind.cover && ltb 0 (s .motion .cover)) refl (outOfTurn (s .begun .count) k) refl
   where
     k : ℕ
@@ -84,7 +85,7 @@ word-number s w h =
     b : ℕ
     b = bitsOf w
 
-    go : (ranged : Bool) → inRange s ≡ ranged → (busy : Bool) → (ltb 0 (s .work .busy) && not (eqb w stopWord)) ≡ busy
+    go : (ranged : Bool) → inRange s ≡ ranged → (busy : Bool) → (isBusy s && not (eqb w stopWord)) ≡ busy
         → (known : Bool) → ltb k kinds ≡ known → (fine : Bool) → allowed k b ≡ fine
         → (moving : Bool) → (eqb k kind.cover && ltb 0 (s .motion .cover)) ≡ moving
         → (turn : Bool) → outOfTurn (s .begun .count) k ≡ turn
@@ -98,7 +99,7 @@ word-number s w h =
     go true p false q true r true t false u false v = rw (p, q, r, t, u, v) (act-number w k b h (rw (r, t)))
 
 pub tick-number : (s : Head) → dueNumber (tickOf s .due) ≡ tickNumber s
-unfolding tickOf passed tickNumber dueNumber
+unfolding tickOf passed tickNumber dueNumber busyTicks
 tick-number s = go (inRange s) refl (eqb (s .work .busy) 1) refl
   where
     go : (ranged : Bool) → inRange s ≡ ranged → (last : Bool) → eqb (s .work .busy) 1 ≡ last → dueNumber (tickOf s .due) ≡ tickNumber s

@@ -16,7 +16,8 @@ use Rattle.words.specs.declared.Decoded.the-variants.{OutOfRange}
 use Rattle.head.specs.Limits.{lengthOf}
 use Rattle.head.specs.Range.{inRange}
 use Rattle.head.specs.State.{noFlags, noneBegun, noTask, acquisition}
-use Rattle.head.specs.Grid.{busy}
+use Rattle.head.specs.Busy.{isBusy}
+use Rattle.head.specs.Grid.{idle, moving, busy, phaseOf}
 use Rattle.head.specs.Flags.{timeBoth, timeIr, wordBoth, mirrorWord, outOfRangeFlags, shown}
 use Rattle.head.specs.Apply.{after}
 use Rattle.head.specs.Word.{marked, onDecoded}
@@ -60,21 +61,36 @@ module _ (s h : Head) (f : FlagBits) where
     unfolding onDecoded
     way-kept e is = rw (is, flags, ← mirror, e)
 
--- `no_word`: d is what was found
-module _ (s : Head) (d : Decoded) where
-  pub way-first : (r : Answered) (n : ℕ) → n < s .work .busy → r ≡ waiting s busy → r ≡ byFinding s d
+-- `no_word`: d is what was found, b whether the head is busy
+module _ (s : Head) (d : Decoded) (b : Bool) (asked : b ≡ isBusy s) where
+  pub way-first : (r : Answered) → b ≡ true → r ≡ waiting s busy → r ≡ byFinding s d
   unfolding waiting byFinding
-  way-first r n h is = rw (lt-ltb 0 (s .work .busy) (omega arith)) is
+  way-first r e is = rw (← asked, e) is
 
-  module _ (idle : s .work .busy ≤ 0) where
+  module _ (free : b ≡ false) where
     pub way-range : (r : Answered) (k : ℕ) → d ≡ OutOfRange k → r ≡ onDecoded s (OutOfRange k) → r ≡ byFinding s d
     unfolding byFinding
-    way-range r k e is = rw (le-ltb 0 (s .work .busy) idle, e) is
+    way-range r k e is = rw (← asked, free, e) is
 
     pub way-unknown : (h : Head) (f : FlagBits) → isWord d ≡ false → (tagOf the-type d ≡ 0) ⊎ (tagOf the-type d ≡ 1)
         → f ≡ wordBoth (s .flags) → h ≡ marked s f (s .begun) → record { head = h; outcome = Ignored UnknownWord } ≡ byFinding s d
     unfolding byFinding onDecoded
-    way-unknown h f other tag flags is = rw (is, flags, le-ltb 0 (s .work .busy) idle, unknown d other tag)
+    way-unknown h f other tag flags is = rw (is, flags, ← asked, free, unknown d other tag)
+
+-- `phase`: b is whether the head is busy
+module _ (s : Head) (b : Bool) (asked : b ≡ isBusy s) where
+  pub phase-busy : b ≡ true → busy ≡ phaseOf s
+  unfolding phaseOf
+  phase-busy e = rw (← asked, e)
+
+  module _ (free : b ≡ false) where
+    pub phase-moving : 0 < s .motion .cover → moving ≡ phaseOf s
+    unfolding phaseOf
+    phase-moving h = rw (← asked, free, lt-ltb 0 (s .motion .cover) h)
+
+    pub phase-idle : s .motion .cover ≤ 0 → idle ≡ phaseOf s
+    unfolding phaseOf
+    phase-idle h = rw (← asked, free, le-ltb 0 (s .motion .cover) h)
 
 -- `ticked`: m is the motion that is left
 abbrev ticking : Head → FlagBits → Work → Motion → Head

@@ -3,10 +3,11 @@
 -- Assumes nothing.
 use Prim.Native.Nat.{ℕ}
 use mathlib.Core.Bool.{Bool, true, false, cond}
-use lib.Dec.{eqb, ltb}
+use lib.Dec.{eqb}
 use Rattle.words.specs.declared.Decoded.{Decoded}
 use Rattle.words.specs.declared.Decoded.the-variants.{Word, Unknown, OutOfRange}
 use Rattle.head.specs.State.{noneBegun}
+use Rattle.head.specs.Busy.{isBusy}
 use Rattle.head.specs.Grid.{busy, phaseOf, applies}
 use Rattle.head.specs.Flags.{timeBoth, timeIr, scanned}
 use Rattle.head.specs.Apply.{after, actOf}
@@ -34,4 +35,4 @@ byGrid s k b =
     (waiting s (phaseOf s))
 
 unfoldable pub byFinding : Head → Decoded → Answered
-byFinding s d = cond (ltb 0 (s .work .busy)) (ignored s (timeBoth (s .flags)) (s .begun) Busy) (onDecoded s d)
+byFinding s d = cond (isBusy s) (ignored s (timeBoth (s .flags)) (s .begun) Busy) (onDecoded s d)

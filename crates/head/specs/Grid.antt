@@ -4,6 +4,7 @@ use Prim.Native.Nat.{ℕ}
 use mathlib.Core.Bool.{Bool, true, cond, not, _&&_}
 use lib.Dec.{eqb, ltb}
 use Rattle.words.specs.Kinds as kind
+use Rattle.head.specs.Busy.{isBusy}
 use Rattle.head.specs.declared.state.Head.{Head}
 
 abbrev pub idle : ℕ
@@ -17,7 +18,7 @@ abbrev pub busy : ℕ
 busy = 2
 
 unfoldable pub phaseOf : Head → ℕ
-phaseOf s = cond (ltb 0 (s .work .busy)) busy (cond (ltb 0 (s .motion .cover)) moving idle)
+phaseOf s = cond (isBusy s) busy (cond (ltb 0 (s .motion .cover)) moving idle)
 
 -- Idle: every kind. Idle with the cover moving: every kind but COVER. Busy: STOP alone. There are 3 phases and 28 kinds.
 unfoldable pub applies : ℕ → ℕ → Bool

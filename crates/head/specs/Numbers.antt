@@ -8,6 +8,7 @@ use Rattle.words.specs.Kinds as kind
 use Rattle.words.specs.Kinds.{identifier, bitsOf, allowed, kindOf, kinds}
 use Rattle.head.specs.State.{noTask, acquisition, housekeeping}
 use Rattle.head.specs.Range.{inRange}
+use Rattle.head.specs.Busy.{busyTicks, isBusy}
 use Rattle.head.specs.Word.{outOfTurn, stopWord}
 use Rattle.head.specs.Tick.{taskOf}
 use Rattle.head.specs.declared.state.Task.{Task}
@@ -63,11 +64,11 @@ unfoldable pub answerNumber : Head → ℕ → ℕ
 answerNumber s w =
     let k = kindOf (identifier w) in
     cond (not (inRange s)) 21
-    (cond (ltb 0 (s .work .busy) && not (eqb w stopWord)) 22
+    (cond (isBusy s && not (eqb w stopWord)) 22
     (cond (not (ltb k kinds)) 23
     (cond (not (allowed k (bitsOf w))) 24
     (cond (eqb k kind.cover && ltb 0 (s .motion .cover)) 22
     (cond (outOfTurn (s .begun .count) k) 25 (takenNumber w))))))
 
 unfoldable pub tickNumber : Head → ℕ
-tickNumber s = cond (not (inRange s)) 21 (cond (eqb (s .work .busy) 1) (taskNumber (taskOf (s .work .task))) 0)
+tickNumber s = cond (not (inRange s)) 21 (cond (eqb (busyTicks s) 1) (taskNumber (taskOf (s .work .task))) 0)

@@ -8,6 +8,7 @@ use Rattle.words.specs.Codec.{decodeOf}
 use Rattle.words.specs.declared.Decoded.{Decoded}
 use Rattle.words.specs.declared.Decoded.the-variants.{Word, Unknown, OutOfRange}
 use Rattle.head.specs.Range.{inRange}
+use Rattle.head.specs.Busy.{isBusy}
 use Rattle.head.specs.State.{noneBegun}
 use Rattle.head.specs.Flags.{timeBoth, timeIr, wordBoth, scanned, mirrorWord, outOfRangeFlags}
 use Rattle.head.specs.Apply.{after, actOf}
@@ -54,5 +55,5 @@ stopWord = 0xC000
 unfoldable pub answerOf : Head → ℕ → Answered
 answerOf s w =
     cond (not (inRange s)) (ignored s (s .flags) (s .begun) State)
-    (cond (ltb 0 (s .work .busy) && not (eqb w stopWord)) (ignored s (timeBoth (s .flags)) (s .begun) Busy)
+    (cond (isBusy s && not (eqb w stopWord)) (ignored s (timeBoth (s .flags)) (s .begun) Busy)
     (onDecoded s (decodeOf w)))

@@ -130,9 +130,9 @@ impl Head {
     pub fn phase(self) -> usize
         ensures { λ r. ⌜ r ≡ phaseOf self ⌝ }
     {
-        let busy = self.work.busy;
+        let busy = self.is_busy();
         let cover = self.motion.cover;
-        if 0 < busy {
+        if busy {
             return BUSY;
         }
         if 0 < cover {

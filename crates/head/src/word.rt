@@ -156,7 +156,8 @@ impl Head {
     {
         let flags = self.flags;
         let begun = self.begun;
-        if 0 < self.work.busy {
+        let busy = self.is_busy();
+        if busy {
             return self.kept_waiting(BUSY);
         }
         match found {

@@ -5,6 +5,9 @@ use borrow.Author.Needs.{needs}
 use Rattle.head.proofs.state.Head.no_word.Statement.{statement}
 use Rattle.head.proofs.state.Head.no_word.Tie as tie
 
+is-busy-requires : tie.Need-is-busy-requires
+is-busy-requires c κs = search needs
+
 kept-waiting-requires : tie.Need-kept-waiting-requires
 kept-waiting-requires c κs = search needs
 
@@ -33,6 +36,7 @@ pub no-word-spec : {M : Type 1} → statement M
 no-word-spec =
     tie.close
     (tie.spec
+    is-busy-requires
     kept-waiting-requires
     returns
     enum-known-found

@@ -1,25 +1,21 @@
 -- `head::state::Head::phase` meets its contract.
 -- Assumes nothing.
-use borrow.Author.Tests.{lt-ltb, le-ltb}
-use Rattle.head.specs.Grid.{phaseOf}
+use borrow.Author.Needs.{needs}
+use Rattle.head.proofs.Ways.{phase-busy, phase-moving, phase-idle}
 use Rattle.head.proofs.state.Head.phase.Statement.{statement}
 use Rattle.head.proofs.state.Head.phase.Tie as tie
 
+is-busy-requires : tie.Need-is-busy-requires
+is-busy-requires c κs = search needs
+
 returns : tie.Need-returns
-unfolding phaseOf
-returns c = rw (lt-ltb 0 (c .before .args .self .work .busy) (c .if1 .taken))
+returns c = search (needs, phase-busy)
 
 returns-2 : tie.Need-returns-2
-unfolding phaseOf
-returns-2 c =
-    let s = c .before .before .args .self in
-    rw (le-ltb 0 (s .work .busy) (c .before .if1 .left), lt-ltb 0 (s .motion .cover) (c .if2 .taken))
+returns-2 c = search (needs, phase-moving)
 
 returns-3 : tie.Need-returns-3
-unfolding phaseOf
-returns-3 c =
-    let s = c .before .before .args .self in
-    rw (le-ltb 0 (s .work .busy) (c .before .if1 .left), le-ltb 0 (s .motion .cover) (c .if2 .left))
+returns-3 c = search (needs, phase-idle)
 
 pub phase-spec : {M : Type 1} → statement M
-phase-spec = tie.close (tie.spec returns returns-2 returns-3)
+phase-spec = tie.close (tie.spec is-busy-requires returns returns-2 returns-3)
