@@ -47,13 +47,17 @@ unfoldable pub lengthOf : Settings → ℕ
 unfolding lengthBy
 lengthOf s = lengthBy (s .mode) (s .irdelay) (s .irexpo) (s .ccddelay) (s .ccdexpo)
 
+-- The least data of a CCD DELAY word, 0.1 s.
+abbrev pub leastCcdDelay : ℕ
+leastCcdDelay = 5
+
 -- The largest data of a delay or an exposure word.
 abbrev pub mostTime : ℕ
 mostTime = 0x3FF
 
 -- It lies in 156..4238: the shortest has the CCD's least delay, and the longest both of its times at their largest.
 abbrev pub shortest : ℕ
-shortest = 156
+shortest = extraTicks + (stepTicks * leastCcdDelay + ccdReadout)
 
 abbrev pub longest : ℕ
 longest = extraTicks + (stepTicks * (mostTime + mostTime) + ccdReadout)
