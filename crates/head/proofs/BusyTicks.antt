@@ -1,13 +1,13 @@
 -- The head's busy ticks: none where it is idle, one less with each tick, an acquisition's length after START, three after HK. A head at
 -- rest stays so.
 -- Assumes nothing.
-use mathlib.Core.Path.{_≡_, refl, sym, _∙_}
-use mathlib.Core.Bool.{Bool, true, false, cond, _&&_}
-use Prim.Native.Nat.{ℕ, _-_, _≤_}
+use mathlib.Core.Path.{_≡_, refl}
+use mathlib.Core.Bool.{Bool, true, false, cond}
+use Prim.Native.Nat.{ℕ, _-_}
 use native.Mathlib.Nat.{zero-sub}
 use native.Mathlib.Omega.{arith}
-use borrow.Author.Tests.{le-leb, le-ltb, leb-true, leb-false, ltb-false, eqb-true, eq-eqb}
-use lib.Dec.{leb, ltb, eqb}
+use borrow.Author.Tests.{le-ltb, leb-true, ltb-false, eqb-true, eq-eqb}
+use lib.Dec.{leb, eqb}
 use Rattle.words.specs.Codec.{decodeOf}
 use Rattle.words.specs.Kinds as kind
 use Rattle.words.proofs.Tests.{and-left, and-right}
@@ -33,6 +33,23 @@ module _ (s : Head) where
   pub none-idle : busyTicks s ≡ 0 → isBusy s ≡ false
   unfolding isBusy busyTicks
   none-idle e = le-ltb 0 (s .work .busy) (omega arith)
+
+  -- at rest: both motions are 0
+  pub rest-none : atRest s ≡ true → (s .motion .mirror ≡ 0) × (s .motion .cover ≡ 0)
+  unfolding atRest
+  rest-none e =
+      let m = eqb (s .motion .mirror) 0 in
+      let c = eqb (s .motion .cover) 0 in
+      (eqb-true (s .motion .mirror) 0 (and-left m c e), eqb-true (s .motion .cover) 0 (and-right m c e))
+
+  pub none-rest : s .motion .mirror ≡ 0 → s .motion .cover ≡ 0 → atRest s ≡ true
+  unfolding atRest
+  none-rest m c = rw (eq-eqb (s .motion .mirror) 0 m, eq-eqb (s .motion .cover) 0 c)
+
+  -- heads that move alike are at rest alike
+  pub rest-alike : (t : Head) → t .motion ≡ s .motion → atRest t ≡ atRest s
+  unfolding atRest
+  rest-alike t e = rw e
 
   -- an idle head looks at what the word is
   pub idle-answer : (w : ℕ) → inRange s ≡ true → isBusy s ≡ false → answerOf s w ≡ onDecoded s (decodeOf w)
@@ -73,6 +90,4 @@ module _ (s : Head) where
     pub rest-stays : (n : ℕ) → atRest s ≡ true → atRest (ticksOf n s) ≡ true
     unfolding atRest elapsed
     rest-stays n e =
-        let m = eqb-true (s .motion .mirror) 0 (and-left (eqb (s .motion .mirror) 0) (eqb (s .motion .cover) 0) e) in
-        let c = eqb-true (s .motion .cover) 0 (and-right (eqb (s .motion .mirror) 0) (eqb (s .motion .cover) 0) e) in
-        rw (ticks-elapsed n s h, m, c, zero-sub n)
+        let (m, c) = rest-none e in rw (ticks-elapsed n s h, m, c, zero-sub n)

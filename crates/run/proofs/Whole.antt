@@ -20,6 +20,7 @@ use Rattle.head.specs.Apply.{after, actOf}
 use Rattle.head.specs.Word.{outOfTurn, answerOf}
 use Rattle.head.specs.Tick.{tickOf, ticksOf}
 use Rattle.head.specs.declared.state.Head.{Head}
+use Rattle.head.proofs.BusyTicks.{rest-alike}
 use Rattle.head.proofs.Keep.{word-keeps, tick-keeps}
 use Rattle.head.proofs.Ticks.{ticks-settings}
 use Rattle.orders.specs.Words.{Item, itemsOfAll}
@@ -139,9 +140,12 @@ module _ (k b c : ℕ) (fine : allowed k b ≡ true) (turn : outOfTurn c k ≡ f
         (rw (eq-eqb w startWord e) at r, refl)
 
     rest-told : Resting (t .settings) (answerOf t w .head)
-    unfolding atRest
     rest-told =
-        rw (told-head k b c fine turn s i, start-settings t k b is-kind, start-motion t k b is-kind) rest-first
+        let told = told-head k b c fine turn s i in
+        let (rests, same) = rest-first in (
+          ap atRest told ∙ rest-alike t (after t k b) (start-motion t k b is-kind) ∙ rests,
+          rw (told, start-settings t k b is-kind) same,
+        )
 
     rest-sent : Resting (t .settings) (sent s w)
     unfolding sent

@@ -4,7 +4,7 @@ use mathlib.Core.Path.{_≡_, refl, sym, _∙_}
 use mathlib.Core.Bool.{Bool, true, false, cond, not, _&&_, _||_, false≢true}
 use Prim.Native.Nat.{ℕ, zero, suc, _-_, _*_, _<_, _≤_, max}
 use native.Mathlib.Omega.{arith}
-use borrow.Author.Tests.{le-leb, le-ltb, ltb-false, not-true, eqb-true, eq-eqb}
+use borrow.Author.Tests.{le-ltb, ltb-false, not-true}
 use native.Mathlib.Nat.{zero-sub}
 use Rattle.words.proofs.Tests.{and-left, and-right}
 use lib.Dec.{ltb, eqb}
@@ -24,7 +24,7 @@ use Rattle.head.specs.declared.state.Begun.{Begun}
 use Rattle.head.specs.declared.state.Motion.{Motion}
 use Rattle.head.specs.declared.state.Head.{Head}
 use Rattle.head.specs.declared.word.Cause.the-variants.{CoverMoving}
-use Rattle.head.proofs.BusyTicks.{idle-none, none-idle, idle-answer, busy-after, busy-falls}
+use Rattle.head.proofs.BusyTicks.{idle-none, none-idle, rest-none, none-rest, idle-answer, busy-after, busy-falls}
 use Rattle.head.proofs.Bounds.{bounds}
 use Rattle.head.proofs.Answers.{taken}
 use Rattle.head.proofs.Keep.{word-keeps, ticks-keep}
@@ -60,41 +60,39 @@ idle-ticks n s c i =
 unfoldable pub waitOf : ℕ → Motion → ℕ
 waitOf k m = cond (eqb k kind.start) (max (m .mirror) (m .cover)) (cond (eqb k kind.cover) (m .cover) 0)
 
--- whether a word of kind k may go to an idle head with these motions
-unfoldable pub free : ℕ → Motion → Bool
-free k m = not (eqb k kind.cover && ltb 0 (m .cover)) && (not (eqb k kind.start) || (eqb (m .mirror) 0 && eqb (m .cover) 0))
+-- whether a word of kind k may go to a head that is idle
+unfoldable pub free : ℕ → Head → Bool
+free k s = not (eqb k kind.cover && ltb 0 (s .motion .cover)) && (not (eqb k kind.start) || atRest s)
 
 -- exactly when there is nothing to wait for
-module _ (k : ℕ) (m : Motion) where
-  pub free-now : free k m ≡ true → waitOf k m ≡ 0
+module _ (k : ℕ) (s : Head) where
+  abbrev m : Motion
+  m = s .motion
+
+  pub free-now : free k s ≡ true → waitOf k m ≡ 0
   unfolding free waitOf
   free-now h = go (eqb k kind.start) (eqb k kind.cover) h
     where
-      resting : Bool
-      resting = eqb (m .mirror) 0 && eqb (m .cover) 0
-
-      go : (x y : Bool) → (not (y && ltb 0 (m .cover)) && (not x || resting)) ≡ true
+      go : (x y : Bool) → (not (y && ltb 0 (m .cover)) && (not x || atRest s)) ≡ true
           → cond x (max (m .mirror) (m .cover)) (cond y (m .cover) 0) ≡ 0
       go true y e =
-          let r = and-right (not (y && ltb 0 (m .cover))) resting e in
-          let p = eqb-true (m .mirror) 0 (and-left (eqb (m .mirror) 0) (eqb (m .cover) 0) r) in
-          let q = eqb-true (m .cover) 0 (and-right (eqb (m .mirror) 0) (eqb (m .cover) 0) r) in
-          omega arith
+          let (p, q) = rest-none s (and-right (not (y && ltb 0 (m .cover))) (atRest s) e) in omega arith
       go false true e =
           let l = ltb-false 0 (m .cover) (not-true (ltb 0 (m .cover)) (and-left (not (ltb 0 (m .cover))) true e)) in omega arith
       go false false e = refl
 
-  pub now-free : waitOf k m ≡ 0 → free k m ≡ true
+  pub now-free : waitOf k m ≡ 0 → free k s ≡ true
   unfolding free waitOf
   now-free h = go (eqb k kind.start) (eqb k kind.cover) h
     where
       go : (x y : Bool) → cond x (max (m .mirror) (m .cover)) (cond y (m .cover) 0) ≡ 0
-          → (not (y && ltb 0 (m .cover)) && (not x || (eqb (m .mirror) 0 && eqb (m .cover) 0))) ≡ true
-      go true true e = rw (le-ltb 0 (m .cover) (omega arith), eq-eqb (m .mirror) 0 (omega arith), eq-eqb (m .cover) 0 (omega arith))
-      go true false e = rw (eq-eqb (m .mirror) 0 (omega arith), eq-eqb (m .cover) 0 (omega arith))
+          → (not (y && ltb 0 (m .cover)) && (not x || atRest s)) ≡ true
+      go true true e = rw (le-ltb 0 (m .cover) (omega arith), none-rest s (omega arith) (omega arith))
+      go true false e = rw (none-rest s (omega arith) (omega arith))
       go false true e = rw (le-ltb 0 (m .cover) (omega arith))
       go false false e = refl
 
+module _ (k : ℕ) (m : Motion) where
   pub wait-falls : (n : ℕ) → waitOf k (motionLeft n m) ≡ waitOf k m - n
   unfolding waitOf
   wait-falls n = go (eqb k kind.start) (eqb k kind.cover)
@@ -124,8 +122,8 @@ module _ (k b c : ℕ) (fine : allowed k b ≡ true) (turn : outOfTurn c k ≡ f
   unfolding onDecoded onWord
   answer-idle s i = rw (idle-answer s (wordOf k b) (i .ranged) (i .idle), word-decoded k b fine, i .count, turn)
 
-  pub ready-free : (s : Head) → Idle s c → ready s (wordOf k b) ≡ free k (s .motion)
-  unfolding ready free atRest isTaken
+  pub ready-free : (s : Head) → Idle s c → ready s (wordOf k b) ≡ free k s
+  unfolding ready free isTaken
   ready-free s i = rw (is-start k b fine, answer-idle s i) (go (eqb k kind.cover && ltb 0 (s .motion .cover)))
     where
       go : (x : Bool)
@@ -142,9 +140,8 @@ module _ (k b c : ℕ) (fine : allowed k b ≡ true) (turn : outOfTurn c k ≡ f
       go false e = refl
       go true e =
           let is-free = sym (ready-free (ticksOf n s) (idle-ticks n s c i)) ∙ e in
-          let f : free k (motionLeft n (s .motion)) ≡ true = rw (← ticks-motion n s (i .ranged)) is-free in
           let z = wait-falls k (s .motion) n in
-          let y = free-now k (motionLeft n (s .motion)) f in
+          let y : waitOf k (motionLeft n (s .motion)) ≡ 0 = rw (ticks-motion n s (i .ranged)) at (free-now k (ticksOf n s) is-free) in
           absurd (omega arith)
 
   -- when it is over, it may
@@ -152,7 +149,8 @@ module _ (k b c : ℕ) (fine : allowed k b ≡ true) (turn : outOfTurn c k ≡ f
   ready-then s i =
       let n = waitOf k (s .motion) in
       let z = wait-falls k (s .motion) n in
-      rw (ready-free (ticksOf n s) (idle-ticks n s c i), ticks-motion n s (i .ranged)) (now-free k (motionLeft n (s .motion)) (omega arith))
+      let over : waitOf k (ticksOf n s .motion) ≡ 0 = rw (ticks-motion n s (i .ranged)) (omega arith) in
+      rw (ready-free (ticksOf n s) (idle-ticks n s c i)) (now-free k (ticksOf n s) over)
 
   -- so that the wait is the delay
   within : (n : ℕ) (s : Head) → Idle s c → waitOf k (s .motion) ≤ n → delayWithin n s (wordOf k b) ≡ waitOf k (s .motion)
@@ -164,13 +162,13 @@ module _ (k b c : ℕ) (fine : allowed k b ≡ true) (turn : outOfTurn c k ≡ f
           → (Idle (tickOf s .head) c → waitOf k (tickOf s .head .motion) ≤ n
           → delayWithin n (tickOf s .head) (wordOf k b) ≡ waitOf k (tickOf s .head .motion))
           → elim x [ true ↦ 0 | false ↦ suc (delayWithin n (tickOf s .head) (wordOf k b)) ] ≡ waitOf k (s .motion)
-      go true e rec = sym (free-now k (s .motion) (sym (ready-free s i) ∙ e))
+      go true e rec = sym (free-now k s (sym (ready-free s i) ∙ e))
       go false e rec =
           let later = idle-ticks 1 s c i in
           let down : waitOf k (tickOf s .head .motion) ≡ waitOf k (s .motion) - 1 =
           rw (ticks-motion 1 s (i .ranged)) (wait-falls k (s .motion) 1)
           in
-          let some : waitOf k (s .motion) ≡ 0 → ⊥ = λ z. false≢true (sym e ∙ ready-free s i ∙ now-free k (s .motion) z) in
+          let some : waitOf k (s .motion) ≡ 0 → ⊥ = λ z. false≢true (sym e ∙ ready-free s i ∙ now-free k s z) in
           let r = rec later (omega arith) in
           omega arith
 
@@ -197,8 +195,8 @@ module _ (k b c : ℕ) (fine : allowed k b ≡ true) (turn : outOfTurn c k ≡ f
     readied-taken =
         let t = readied s (wordOf k b) in
         let moving = eqb k kind.cover && ltb 0 (t .motion .cover) in
-        let rest = not (eqb k kind.start) || (eqb (t .motion .mirror) 0 && eqb (t .motion .cover) 0) in
-        let f : free k (t .motion) ≡ true = sym (ready-free t readied-idle) ∙ readied-ready in
+        let rest = not (eqb k kind.start) || atRest t in
+        let f : free k t ≡ true = sym (ready-free t readied-idle) ∙ readied-ready in
         rw (answer-idle t readied-idle, not-true moving (and-left (not moving) rest f))
 
   -- the span covers what the word makes the head busy with
