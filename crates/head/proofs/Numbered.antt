@@ -1,15 +1,15 @@
 -- The numbers of the head's answers: each case's number is the one that the state and the word give by themselves.
 -- Assumes nothing.
-use mathlib.Core.Path.{_≡_, refl, sym, _∙_, ap}
+use mathlib.Core.Path.{_≡_, refl}
 use mathlib.Core.Bool.{Bool, true, false, cond, not, _&&_}
 use Prim.Native.Nat.{ℕ, _+_, _*_, _<_}
-use borrow.Author.Tests.{eqb-true, lt-ltb, not-true, not-false}
+use borrow.Author.Tests.{eqb-true}
 use lib.Dec.{ltb, eqb}
 use Rattle.words.specs.Kinds as kind
 use Rattle.words.specs.Kinds.{rows, identifier, bitsOf, allowed, kindOf, kinds}
 use Rattle.words.specs.Codec.{decodeOf, judged, encodeOf, wordOf}
 use Rattle.words.specs.declared.Decoded.{Decoded}
-use Rattle.words.specs.declared.Decoded.the-variants.{Word, Unknown, OutOfRange}
+use Rattle.words.specs.declared.Decoded.the-variants.{Word}
 use Rattle.words.proofs.Codec.{decode-encode, decode-read}
 use Rattle.head.specs.Range.{inRange}
 use Rattle.head.specs.Busy.{busyTicks, isBusy}

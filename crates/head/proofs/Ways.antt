@@ -1,6 +1,6 @@
 -- The ways through the code of a word that is ignored, of a tick, and of a word that is taken: each returns what its definition says.
 -- Assumes nothing.
-use mathlib.Core.Path.{_≡_, refl}
+use mathlib.Core.Path.{_≡_}
 use mathlib.Core.Bool.{Bool, true, false}
 use mathlib.Core.Logic.{_⊎_}
 use Prim.Native.Nat.{ℕ, _+_, _-_, _<_, _≤_}
@@ -22,7 +22,7 @@ use Rattle.head.specs.Flags.{timeBoth, timeIr, wordBoth, mirrorWord, out
 use Rattle.head.specs.Apply.{after}
 use Rattle.head.specs.Word.{marked, onDecoded}
 use Rattle.head.specs.ByGrid.{isWord, waiting, byFinding}
-use Rattle.head.specs.Tick.{motionDown, moved, taskOf, passed}
+use Rattle.head.specs.Tick.{motionDown, taskOf, passed}
 use Rattle.head.specs.declared.state.FlagBits.{FlagBits}
 use Rattle.head.specs.declared.state.Flags.{Flags}
 use Rattle.head.specs.declared.state.Task.{Task}
