@@ -7,7 +7,7 @@ use Prim.Native.Nat.{ℕ, _-_}
 use native.Mathlib.Nat.{zero-sub}
 use native.Mathlib.Omega.{arith}
 use borrow.Author.Tests.{le-ltb, leb-true, ltb-false, eqb-true, eq-eqb}
-use lib.Dec.{leb, eqb}
+use lib.Dec.{leb, eqb, leb·zero}
 use Rattle.words.specs.Codec.{decodeOf}
 use Rattle.words.specs.Kinds as kind
 use Rattle.words.proofs.Tests.{and-left, and-right}
@@ -19,16 +19,32 @@ use Rattle.head.specs.Busy.{busyTicks, isBusy, atRest}
 use Rattle.head.specs.Apply.{after, workAfter}
 use Rattle.head.specs.Word.{onDecoded, answerOf}
 use Rattle.head.specs.Tick.{taskOf, passed, tickOf, ticksOf}
-use Rattle.head.specs.Ticks.{elapsed, workLeft}
+use Rattle.head.specs.Ticks.{endsWithin, elapsed, workLeft}
 use Rattle.head.specs.declared.state.Work.{Work}
 use Rattle.head.specs.declared.state.Head.{Head}
 use Rattle.head.specs.declared.tick.Due.the-variants.{Blocks}
+use Rattle.head.proofs.Bounds.{Working, idle, acquiring, requesting, bounds}
 use Rattle.head.proofs.Ticks.{ticks-elapsed}
 
+-- no task ends where there is none
+still-flags : (n b : ℕ) → b ≡ 0 → endsWithin n b ≡ false
+unfolding endsWithin
+still-flags n b e = rw e
+
+still-work : (n t b : ℕ) → Working t b → b ≡ 0 → workLeft n (record { task = t; busy = b }) ≡ record { task = t; busy = b }
+unfolding workLeft
+still-work n t b idle e = rw (leb·zero n)
+still-work n t b (acquiring m p q) e = absurd (omega arith)
+still-work n t b (requesting m p q) e = absurd (omega arith)
+
 module _ (s : Head) where
-  pub idle-none : isBusy s ≡ false → busyTicks s ≡ 0
+  idle-busy : isBusy s ≡ false → s .work .busy ≡ 0
   unfolding isBusy busyTicks
-  idle-none e = let z = ltb-false 0 (s .work .busy) e in omega arith
+  idle-busy e = let z = ltb-false 0 (s .work .busy) e in omega arith
+
+  pub idle-none : isBusy s ≡ false → busyTicks s ≡ 0
+  unfolding busyTicks
+  idle-none e = idle-busy e
 
   pub none-idle : busyTicks s ≡ 0 → isBusy s ≡ false
   unfolding isBusy busyTicks
@@ -91,3 +107,11 @@ module _ (s : Head) where
     unfolding atRest elapsed
     rest-stays n e =
         let (m, c) = rest-none e in rw (ticks-elapsed n s h, m, c, zero-sub n)
+
+    -- an idle head at rest stays as it is
+    pub ticks-still : (n : ℕ) → isBusy s ≡ false → atRest s ≡ true → ticksOf n s ≡ s
+    unfolding elapsed
+    ticks-still n free rest =
+        let (m, c) = rest-none rest in
+        let w = still-work n (s .work .task) (s .work .busy) (bounds s h .work) (idle-busy free) in
+        rw (ticks-elapsed n s h, still-flags n (s .work .busy) (idle-busy free), w, m, c, zero-sub n)

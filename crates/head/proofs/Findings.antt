@@ -2,7 +2,7 @@
 -- Assumes nothing.
 use mathlib.Core.Path.{_≡_, refl, sym, _∙_, ap}
 use mathlib.Core.Bool.{Bool, true, false, not, false≢true, true≢false}
-use Prim.Native.Nat.{ℕ, _<_, _-_, _+_, _*_}
+use Prim.Native.Nat.{ℕ, _<_, _+_, _*_}
 use native.Mathlib.Omega.{arith}
 use borrow.Author.Tests.{lt-ltb, eqb-true, eqb-false, not-true, not-false}
 use lib.Dec.{ltb, eqb}
@@ -100,17 +100,13 @@ unknown (Word k b) w h = absurd (true≢false w)
 unknown Unknown w h = refl
 unknown (OutOfRange k) w h = ⊎-elim (λ e. absurd (omega arith)) (λ e. absurd (omega arith)) h
 
--- the ways through `word`: i is what the range check answered, d what was decoded, r the answer
-module _ (s : Head) (i : Bool) (is : i ≡ inRange s) (passed : not i ≡ false) where
-  pub ranged : inRange s ≡ true
-  ranged = sym is ∙ not-false i passed
+-- the ways through `answer`: d is what was decoded, r the answer
+module _ (s : Head) (ranged : inRange s ≡ true) (w : ℕ) (h : w < 65536) (d : Decoded) (found : d ≡ decodeOf w) (r : Answered) where
+  pub way-finding : isWord d ≡ false → r ≡ byFinding s d → r ≡ answerOf s w
+  way-finding other e = e ∙ by-finding s w d ranged found other
 
-  module _ (w : ℕ) (h : w < 65536) (d : Decoded) (found : d ≡ decodeOf w) (r : Answered) where
-    pub way-finding : isWord d ≡ false → r ≡ byFinding s d → r ≡ answerOf s w
-    way-finding other e = e ∙ by-finding s w d ranged found other
-
-    pub way-grid : (k b : ℕ) → d ≡ Word k b → r ≡ byGrid s k b → r ≡ answerOf s w
-    way-grid k b word e = e ∙ by-grid s w k b ranged h (sym word ∙ found)
+  pub way-grid : (k b : ℕ) → d ≡ Word k b → r ≡ byGrid s k b → r ≡ answerOf s w
+  way-grid k b word e = e ∙ by-grid s w k b ranged h (sym word ∙ found)
 
 module _ (w : ℕ) (d : Decoded) (found : d ≡ decodeOf w) (k b : ℕ) (word : d ≡ Word k b) where
   pub word-kind : k < 28

@@ -12,3 +12,4 @@ pub mod RowSet
 pub mod Ways
 pub mod Numbered
 pub mod BusyTicks
+pub mod Lists

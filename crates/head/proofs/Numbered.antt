@@ -1,21 +1,20 @@
 -- The numbers of the head's answers: each case's number is the one that the state and the word give by themselves.
 -- Assumes nothing.
-use mathlib.Core.Path.{_≡_, refl}
+use mathlib.Core.Path.{_≡_, refl, sym, _∙_}
 use mathlib.Core.Bool.{Bool, true, false, cond, not, _&&_}
-use Prim.Native.Nat.{ℕ, _+_, _*_, _<_}
-use borrow.Author.Tests.{eqb-true}
+use Prim.Native.Nat.{ℕ, _+_, _*_, _≤_, _<_, max}
+use native.Mathlib.Omega.{arith}
+use borrow.Author.Tests.{eqb-true, not-false}
 use lib.Dec.{ltb, eqb}
 use Rattle.words.specs.Kinds as kind
 use Rattle.words.specs.Kinds.{rows, identifier, bitsOf, allowed, kindOf, kinds}
 use Rattle.words.specs.Codec.{decodeOf, judged, encodeOf, wordOf}
-use Rattle.words.specs.declared.Decoded.{Decoded}
 use Rattle.words.specs.declared.Decoded.the-variants.{Word}
 use Rattle.words.proofs.Codec.{decode-encode, decode-read}
 use Rattle.head.specs.Range.{inRange}
 use Rattle.head.specs.Busy.{busyTicks, isBusy}
 use Rattle.head.specs.Apply.{actOf}
 use Rattle.head.specs.Word.{outOfTurn, onWord, onDecoded, answerOf, stopWord}
-use Rattle.head.specs.ByGrid.{isWord, byGrid, byFinding}
 use Rattle.head.specs.Tick.{passed, tickOf}
 use Rattle.head.specs.Numbers.{actNumber, causeNumber, outcomeNumber, taskNumber, dueNumber, takenNumber, answerNumber, tickNumber}
 use Rattle.head.specs.declared.state.Task.{Task}
@@ -31,7 +30,6 @@ use Rattle.head.specs.declared.word.Answered.{Answered}
 use Rattle.head.specs.declared.tick.Due.{Due}
 use Rattle.head.specs.declared.tick.Due.the-variants.{Blocks, Refused}
 use Rattle.head.specs.declared.tick.Ticked.{Ticked}
-use Rattle.head.proofs.Findings.{way-finding, way-grid}
 
 -- the cases that hold something: r is the number found for what they hold
 pub cover-number : (a : Act) (b : ℕ) → a ≡ Cover b → 0x1000 + b ≡ actNumber a
@@ -107,6 +105,38 @@ tick-number s = go (inRange s) refl (eqb (s .work .busy) 1) refl
     go true p true q = rw (p, q)
     go true p false q = rw (p, q)
 
+-- it is the word itself, or at most 25
+answer-small : (s : Head) (w : ℕ) → answerNumber s w ≤ max w 25
+unfolding answerNumber takenNumber
+answer-small s w =
+    let k = kindOf (identifier w) in
+    go (inRange s) (isBusy s && not (eqb w stopWord)) (ltb k kinds) (allowed k (bitsOf w)) (eqb k kind.cover && ltb 0 (s .motion .cover))
+    (outOfTurn (s .begun .count) k) (eqb k kind.start) (eqb k kind.hk) (eqb k kind.cover)
+  where
+    go : (ranged busy known fine moving turn start hk cover : Bool)
+        → cond (not ranged) 21
+        (cond busy 22
+        (cond (not known) 23
+        (cond (not fine) 24 (cond moving 22 (cond turn 25 (cond start 1 (cond hk 2 (cond cover w 0))))))))
+        ≤ max w 25
+    go false busy known fine moving turn start hk cover = omega arith
+    go true true known fine moving turn start hk cover = omega arith
+    go true false false fine moving turn start hk cover = omega arith
+    go true false true false moving turn start hk cover = omega arith
+    go true false true true true turn start hk cover = omega arith
+    go true false true true false true start hk cover = omega arith
+    go true false true true false false true hk cover = omega arith
+    go true false true true false false false true cover = omega arith
+    go true false true true false false false false true = omega arith
+    go true false true true false false false false false = omega arith
+
+pub answer-most : (s : Head) (w : ℕ) → w < 65536 → outcomeNumber (answerOf s w .outcome) ≤ max w 25
+answer-most s w h = rw (word-number s w h) (answer-small s w)
+
+-- a word's answer has the number of its outcome
+pub answered-number : (s : Head) (w : ℕ) → w < 65536 → (r : Answered) → r ≡ answerOf s w → outcomeNumber (r .outcome) ≡ answerNumber s w
+answered-number s w h r e = rw e (word-number s w h)
+
 -- the ways through `word` and `tick`: i is what the range check answered
 module _ (s : Head) (i : Bool) (is : i ≡ inRange s) where
   module _ (out : not i ≡ true) (w : ℕ) where
@@ -118,12 +148,8 @@ module _ (s : Head) (i : Bool) (is : i ≡ inRange s) where
     unfolding answerNumber outcomeNumber causeNumber
     state-number = simp (← is, out)
 
-  module _ (passes : not i ≡ false) (w : ℕ) (h : w < 65536) (d : Decoded) (found : d ≡ decodeOf w) (r : Answered) where
-    pub finding-number : isWord d ≡ false → r ≡ byFinding s d → outcomeNumber (r .outcome) ≡ answerNumber s w
-    finding-number other e = rw (way-finding s i is passes w h d found r other e) (word-number s w h)
-
-    pub grid-number : (k b : ℕ) → d ≡ Word k b → r ≡ byGrid s k b → outcomeNumber (r .outcome) ≡ answerNumber s w
-    grid-number k b word e = rw (way-grid s i is passes w h d found r k b word e) (word-number s w h)
+  pub ranged : not i ≡ false → inRange s ≡ true
+  ranged passes = sym is ∙ not-false i passes
 
   module _ (r : Ticked) where
     pub way-passed : i ≡ true → r ≡ passed s → r ≡ tickOf s

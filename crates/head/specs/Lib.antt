@@ -12,3 +12,4 @@ pub mod ByRow
 pub mod Tick
 pub mod Ticks
 pub mod Numbers
+pub mod List

@@ -3,6 +3,7 @@ pub mod apply;
 pub mod busy;
 pub mod flags;
 pub mod grid;
+pub mod list;
 pub mod numbers;
 pub mod pass;
 pub mod range;

@@ -20,7 +20,7 @@ fn less(ticks: u16, n: u32) -> u16
 
 impl Head {
     // The state n ticks later, of a state in range.
-    fn later(mut self, n: u32) -> Head
+    pub(crate) fn later(mut self, n: u32) -> Head
         ensures { λ r. ⌜ r ≡ elapsed n self ⌝ }
     {
         let motion = Motion {

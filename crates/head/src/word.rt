@@ -191,6 +191,18 @@ impl Head {
         }
     }
 
+    // The answer of a state in range.
+    pub(crate) fn answer(self, word: u16) -> Answered
+        requires { ⌜ inRange self ≡ true ⌝ }
+        ensures { λ r. ⌜ r ≡ answerOf self word ⌝ }
+    {
+        let found = words::decode(word);
+        let Decoded::Word { kind, bits } = found else {
+            return self.no_word(found);
+        };
+        self.known_word(kind, bits)
+    }
+
     pub fn word(self, word: u16) -> Answered
         ensures { λ r. ⌜ r ≡ answerOf self word ⌝ }
         ensures { λ r. ⌜ outcomeNumber (r .outcome) ≡ answerNumber self word ⌝ }
@@ -201,10 +213,6 @@ impl Head {
                 outcome: Outcome::Ignored(Cause::State),
             };
         }
-        let found = words::decode(word);
-        let Decoded::Word { kind, bits } = found else {
-            return self.no_word(found);
-        };
-        self.known_word(kind, bits)
+        self.answer(word)
     }
 }
