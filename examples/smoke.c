@@ -1,6 +1,7 @@
 /*
  * Drives the library through its C interface: a few words and ticks by hand,
- * then document 01's example plan, translated and run tick by tick on the head.
+ * then document 01's example plan, translated and run tick by tick on the head;
+ * then its list in one call, whole and with a word lost.
  *
  *     rt staticlib interface
  *     cc -Wall -Wextra -Werror -I include examples/smoke.c \
@@ -141,6 +142,43 @@ static void run_plan(void)
     printf("\n");
 }
 
+/* A list in one call, from power-on: its answer, an outcome for each word, and
+ * the mirror. */
+static void give_list(const uint16_t *words, const uint32_t *ticks,
+                      size_t count)
+{
+    uint16_t state[SHABGOZIM_STATE];
+    uint16_t outcomes[SHABGOZIM_MOST_LISTED];
+    shabgozim_power_on(state, SHABGOZIM_STATE);
+    uint32_t answer = shabgozim_list(state, SHABGOZIM_STATE, words, count, ticks,
+                                     count, outcomes, SHABGOZIM_MOST_LISTED);
+    printf("list of %zu words answers %" PRIu32, count, answer);
+    if (answer == 0) {
+        printf(", outcomes");
+        for (size_t i = 0; i < count; i++) {
+            printf(" %u", (unsigned)outcomes[i]);
+        }
+    }
+    printf(", ");
+    print_mirror(state);
+    printf("\n");
+}
+
+/* The example plan's list; then without its fourth word, which no flag tells:
+ * START is taken under the mirror's old position. Then with two equal ticks. */
+static void run_lists(void)
+{
+    static const uint16_t whole[] = {0x2011, 0xA000, 0x600F,
+                                     0xE0F8, 0x8000, 0x4000};
+    static const uint32_t whole_ticks[] = {0, 1, 2, 3, 33, 191};
+    static const uint16_t lost[] = {0x2011, 0xA000, 0x600F, 0x8000, 0x4000};
+    static const uint32_t lost_ticks[] = {0, 1, 2, 33, 191};
+    static const uint32_t equal_ticks[] = {0, 1, 1, 33, 191};
+    give_list(whole, whole_ticks, 6);
+    give_list(lost, lost_ticks, 5);
+    give_list(lost, equal_ticks, 5);
+}
+
 /* A plan whose first order has an unknown code. */
 static void refuse_plan(void)
 {
@@ -159,6 +197,7 @@ int main(void)
 {
     by_hand();
     run_plan();
+    run_lists();
     refuse_plan();
     return 0;
 }

@@ -17,8 +17,8 @@
  * The library keeps no memory of its own, allocates nothing, never prints and
  * never ends the program. Calls on different buffers may run at the same time.
  *
- * Numbers of refusals are those of document 01: 1-10 for plans, 11-13 for
- * blocks, 21-25 for the head. 0 is success.
+ * Numbers of refusals are those of documents 01 and 02: 1-10 for plans, 11-13
+ * for blocks, 21-25 for the head, 31 for lists. 0 is success.
  *
  * One tick is 10 ms.
  */
@@ -122,6 +122,31 @@ enum {
     SHABGOZIM_SHOWS_VIS_TIME = 8,
     SHABGOZIM_SHOWS_VIS_WORD = 16
 };
+
+/* No list has more words than this. */
+enum { SHABGOZIM_MOST_LISTED = 256 };
+
+/*
+ * Gives the head a list of words, each at its tick, and advances the state, as
+ * if words and the ticks between them had gone in singly: the first word at
+ * once, whatever its tick; between two words as many ticks as theirs differ by;
+ * after the last word one tick. An empty list changes nothing. How far apart
+ * ticks lie costs no time.
+ *
+ *     0    every word was given; `outcomes` has one number for each, as
+ *          `shabgozim_word` answers it: 0, 1, 2, a cover's word, or 22-25. An
+ *          ignored word does not stop the rest. Places after them are left.
+ *     21   refused: the state is out of range
+ *     31   refused: the ticks do not rise strictly, `words` and `ticks` have
+ *          not the same length or more than 256 places, or `outcomes` has fewer
+ *          places than there are words
+ *
+ * A refusal leaves the state and the outcomes as they were.
+ */
+uint32_t shabgozim_list(uint16_t *state, size_t state_length,
+                        const uint16_t *words, size_t words_length,
+                        const uint32_t *ticks, size_t ticks_length,
+                        uint16_t *outcomes, size_t outcomes_length);
 
 /* ------------------------------------------------------------------------
  * Words. Their 28 kinds, in the order of document 01's table read row by row:

@@ -11,13 +11,15 @@ use Rattle.head.specs.Range.{inRange}
 use Rattle.head.specs.Word.{answerOf}
 use Rattle.head.specs.Tick.{tickOf}
 use Rattle.head.specs.Numbers.{causeNumber, outcomeNumber}
+use Rattle.head.specs.List.{numbersListed, listOf, outcomesAfter, listAnswerNumber}
 use Rattle.head.specs.declared.state.Head.{Head}
 use Rattle.head.specs.declared.word.Cause.the-variants.{State}
 use Rattle.head.specs.declared.word.Answered.{Answered}
 use Rattle.head.specs.declared.tick.Ticked.{Ticked}
+use Rattle.head.specs.declared.list.Listed.{Listed}
 use Rattle.head.specs.Row.{places, numbersOf, stateOf}
 use Rattle.interface.specs.State.{wellFormed, valid}
-use Rattle.interface.specs.Stepping.{powerOnAnswer, powerOnState, rangeAnswer, wordAnswer, wordState, dueAnswer, tickAnswer, tickState}
+use Rattle.interface.specs.Stepping.{powerOnAnswer, powerOnState, rangeAnswer, wordAnswer, wordState, dueAnswer, tickAnswer, tickState, listAnswer, listState, listOutcomes}
 use Rattle.interface.proofs.RoundTrip.{well-formed-length}
 
 module _ (l : List ℕ) where
@@ -54,6 +56,10 @@ module _ (l : List ℕ) (i : Bool) (is : i ≡ wellFormed l) where
       unfolding wordAnswer
       word-ill w = rw ill own
 
+      pub list-ill : (ws ts : List ℕ) (room : ℕ) → r ≡ listAnswer l ws ts room
+      unfolding listAnswer
+      list-ill ws ts room = rw ill own
+
       pub tick-ill : r ≡ tickAnswer l
       unfolding tickAnswer
       tick-ill = rw ill own
@@ -61,6 +67,14 @@ module _ (l : List ℕ) (i : Bool) (is : i ≡ wellFormed l) where
     pub word-left : (w : ℕ) → l ≡ wordState l w
     unfolding wordState
     word-left w = rw ill
+
+    pub list-left : (ws ts : List ℕ) (room : ℕ) → l ≡ listState l ws ts room
+    unfolding listState
+    list-left ws ts room = rw ill
+
+    pub outcomes-left : (ws ts old : List ℕ) → old ≡ listOutcomes l ws ts old
+    unfolding listOutcomes
+    outcomes-left ws ts old = rw ill
 
     pub tick-left : l ≡ tickState l
     unfolding tickState
@@ -101,3 +115,16 @@ module _ (l : List ℕ) (i : Bool) (is : i ≡ wellFormed l) where
         pub tick-state : (after : List ℕ) → after ≡ numbersOf (t .head) → after ≡ tickState l
         unfolding tickState
         tick-state after own = rw (well, ← loaded, ← e) own
+
+      module _ (ws ts old : List ℕ) (a : Listed) (e : a ≡ listOf h ws ts (length old)) where
+        pub list-answer : (r : ℕ) → r ≡ listAnswerNumber (a .answer) → r ≡ listAnswer l ws ts (length old)
+        unfolding listAnswer
+        list-answer r own = rw (well, ← loaded, ← e) own
+
+        pub list-state : (after : List ℕ) → after ≡ numbersOf (a .head) → after ≡ listState l ws ts (length old)
+        unfolding listState
+        list-state after own = rw (well, ← loaded, ← e) own
+
+        pub list-outcomes : (after : List ℕ) → after ≡ outcomesAfter (a .answer) (numbersListed ws ts h) old → after ≡ listOutcomes l ws ts old
+        unfolding listOutcomes
+        list-outcomes after own = rw (well, ← loaded, ← e) own

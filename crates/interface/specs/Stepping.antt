@@ -10,6 +10,7 @@ use Rattle.head.specs.State.{powerOn}
 use Rattle.head.specs.Word.{answerOf}
 use Rattle.head.specs.Tick.{tickOf}
 use Rattle.head.specs.Numbers.{causeNumber, outcomeNumber, dueNumber}
+use Rattle.head.specs.List.{numbersListed, listOf, outcomesAfter, listAnswerNumber}
 use Rattle.head.specs.declared.state.Flags.{Flags}
 use Rattle.head.specs.declared.word.Cause.the-variants.{State}
 use Rattle.head.specs.declared.tick.Due.{Due}
@@ -58,3 +59,14 @@ tickAnswer l = cond (wellFormed l) (dueAnswer (tickOf (stateOf l) .due)) stateRe
 
 unfoldable pub tickState : List ℕ → List ℕ
 tickState l = cond (wellFormed l) (numbersOf (tickOf (stateOf l) .head)) l
+
+-- A list of timed words: its answer's number, the array, and the outcomes.
+unfoldable pub listAnswer : List ℕ → List ℕ → List ℕ → ℕ → ℕ
+listAnswer l ws ts room = cond (wellFormed l) (listAnswerNumber (listOf (stateOf l) ws ts room .answer)) stateRefused
+
+unfoldable pub listState : List ℕ → List ℕ → List ℕ → ℕ → List ℕ
+listState l ws ts room = cond (wellFormed l) (numbersOf (listOf (stateOf l) ws ts room .head)) l
+
+unfoldable pub listOutcomes : List ℕ → List ℕ → List ℕ → List ℕ → List ℕ
+listOutcomes l ws ts old =
+    cond (wellFormed l) (outcomesAfter (listOf (stateOf l) ws ts (length old) .answer) (numbersListed ws ts (stateOf l)) old) old

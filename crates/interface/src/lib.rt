@@ -31,7 +31,7 @@ ghost use Rattle.blocks.specs.Ccd.{ccdWords, ccdReadings};
 ghost use Rattle.interface.specs.Blocks.{blockWritten, irBlockFor, ccdBlockFor, irAnswer, irReadFor, irNumbersAfter, ccdAnswer, ccdReadFor, ccdNumbersAfter};
 ghost use Rattle.head.specs.Row.{stateOf};
 ghost use Rattle.interface.specs.Plans.{translatedOf, translatedAnswer};
-ghost use Rattle.interface.specs.Stepping.{powerOnAnswer, powerOnState, rangeAnswer, wordAnswer, wordState, tickAnswer, tickState};
+ghost use Rattle.interface.specs.Stepping.{powerOnAnswer, powerOnState, rangeAnswer, wordAnswer, wordState, tickAnswer, tickState, listAnswer, listState, listOutcomes};
 ghost use Rattle.interface.specs.Codec.{decodedAnswer, encodedAnswer};
 
 // Writes the power-on state.
@@ -88,6 +88,27 @@ pub extern "C" fn shabgozim_tick(state: &mut [u16]) -> u32
     let due = ticked.due;
     state::store(state, ticked.head);
     answers::due_number(due)
+}
+
+// Gives the head a list of words, each at its tick.
+#[no_mangle]
+pub extern "C" fn shabgozim_list(
+    state: &mut [u16],
+    words: &[u16],
+    ticks: &[u32],
+    outcomes: &mut [u16],
+) -> u32
+    ensures { λ r. ⌜ r ≡ listAnswer (now (state .entry)) (now (words .entry)) (now (ticks .entry)) (length (now (outcomes .entry))) ⌝ }
+    ensures { λ _. ⌜ now (state .exit) ≡ listState (now (state .entry)) (now (words .entry)) (now (ticks .entry)) (length (now (outcomes .entry))) ⌝ }
+    ensures { λ _. ⌜ now (outcomes .exit) ≡ listOutcomes (now (state .entry)) (now (words .entry)) (now (ticks .entry)) (now (outcomes .entry)) ⌝ }
+{
+    if !state::well_formed(state) {
+        return answers::state_refused();
+    }
+    let listed = state::load(state).list(words, ticks, outcomes);
+    let answer = listed.answer;
+    state::store(state, listed.head);
+    answer.number() as u32
 }
 
 #[no_mangle]
