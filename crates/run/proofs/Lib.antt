@@ -12,3 +12,4 @@ pub mod Comparing
 pub mod Agreeing
 pub mod Comparison
 pub mod Equal
+pub mod Listed

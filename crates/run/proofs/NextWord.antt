@@ -64,7 +64,7 @@ module _ (t end tick w : ℕ) (xs : List Timed) (s : Head) (r : Rising t (timed 
   unfolding next answered ticksOf
   first-head = rw (at, all) at (word-head t (tick - t) 0 w xs s later (end - (tick + 1)))
 
-  first-moments : ranFrom end t (timed tick w ∷ xs) s ≡ quiet (tick - t) s ++ (given found w ∷ ranFrom end (tick + 1) xs then)
+  pub first-moments : ranFrom end t (timed tick w ∷ xs) s ≡ quiet (tick - t) s ++ (given found w ∷ ranFrom end (tick + 1) xs then)
   unfolding next answered ticksOf quiet
   first-moments = rw (at, all) at (word-moments t (tick - t) 0 w xs s later (end - (tick + 1)))
 

@@ -23,7 +23,7 @@ use Rattle.run.proofs.Acting.{Logged}
 use Rattle.run.proofs.NextWord.{timed, rising-end, ranFrom, lastOf, rowsFrom, given, first-head, first-log, first-times, none-head, none-log, none-times}
 
 -- the length of paired lists, and their element at a place
-paired-long : (ts ws : List ℕ) → length (paired ts ws) ≡ min (length ts) (length ws)
+pub paired-long : (ts ws : List ℕ) → length (paired ts ws) ≡ min (length ts) (length ws)
 unfolding paired
 paired-long [] ws = omega arith
 paired-long (t ∷ ts) [] = omega arith

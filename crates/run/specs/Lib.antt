@@ -3,3 +3,4 @@ pub mod Earliest
 pub mod Claim
 pub mod Rehearse
 pub mod Compare
+pub mod Listed
