@@ -16,7 +16,7 @@ pub fn instructions(row: &Row, which: Which) -> io::Result<u64> {
         .arg("--tool=callgrind")
         .arg(format!("--callgrind-out-file={}", counts.display()));
     for function in row.functions {
-        valgrind.arg(format!("--toggle-collect={}{function}", which.prefix()));
+        valgrind.arg(format!("--toggle-collect={}{function}", row.prefix(which)));
     }
     valgrind
         .arg(env::current_exe()?)

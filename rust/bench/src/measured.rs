@@ -1,9 +1,11 @@
 //! The workloads, each ready to run on either side.
 
-use crate::workloads::{GivenWords, MixedRun, ReadBlocks, Ticks};
+use crate::plain_list::plain_list;
+use crate::workloads::{GivenWords, Lists, MixedRun, ReadBlocks, Ticks};
 use crate::workloads::{Translations, Workload, WrittenBlocks};
 use compare::blocks::Block;
-use compare::sides::{Library, Paper};
+use compare::sides::{Library, Paper, Side};
+use shabgozim::MOST_WORDS;
 
 /// One of the two implementations.
 #[derive(Clone, Copy, PartialEq, Eq)]
@@ -21,14 +23,6 @@ impl Which {
             Which::Paper => "paper",
         }
     }
-
-    /// What the names of its functions begin with.
-    pub fn prefix(self) -> &'static str {
-        match self {
-            Which::Library => "shabgozim_",
-            Which::Paper => "paper_",
-        }
-    }
 }
 
 /// A row of the table. Inputs are made when they are needed and not before,
@@ -37,7 +31,44 @@ pub struct Row {
     pub name: &'static str,
     /// The functions, without their prefix.
     pub functions: &'static [&'static str],
+    /// What the names of the functions begin with that stand for `paper`.
+    paper_prefix: &'static str,
+    /// How many words a call is given, where that is to be told.
+    pub words: Option<usize>,
     pub prepare: fn() -> Prepared,
+}
+
+impl Row {
+    const fn new(
+        name: &'static str,
+        functions: &'static [&'static str],
+        prepare: fn() -> Prepared,
+    ) -> Row {
+        Row {
+            name,
+            functions,
+            paper_prefix: "paper_",
+            words: None,
+            prepare,
+        }
+    }
+
+    /// Full lists, against plain Rust.
+    const fn lists(name: &'static str, prepare: fn() -> Prepared) -> Row {
+        Row {
+            paper_prefix: "plain_",
+            words: Some(MOST_WORDS),
+            ..Row::new(name, &["list"], prepare)
+        }
+    }
+
+    /// What the names of a side's functions begin with.
+    pub fn prefix(&self, which: Which) -> &'static str {
+        match which {
+            Which::Library => "shabgozim_",
+            Which::Paper => self.paper_prefix,
+        }
+    }
 }
 
 /// A workload with its inputs.
@@ -57,6 +88,17 @@ impl Prepared {
         }
     }
 
+    /// Lists, which plain Rust is given in the place of `paper`.
+    fn of_lists(mut lists: Lists) -> Prepared {
+        Prepared {
+            calls: lists.calls(),
+            pass: Box::new(move |which| match which {
+                Which::Library => lists.pass(Library::list),
+                Which::Paper => lists.pass(plain_list),
+            }),
+        }
+    }
+
     /// Makes every call once; gives the sum of the answers.
     pub fn pass(&mut self, which: Which) -> u64 {
         (self.pass)(which)
@@ -65,64 +107,54 @@ impl Prepared {
 
 /// Everything that is measured.
 pub const ROWS: &[Row] = &[
-    Row {
-        name: "word",
-        functions: &["word"],
-        prepare: || Prepared::of(GivenWords::new()),
-    },
-    Row {
-        name: "tick",
-        functions: &["tick"],
-        prepare: || Prepared::of(Ticks::new()),
-    },
-    Row {
-        name: "words and ticks mixed",
-        functions: &["word", "tick"],
-        prepare: || Prepared::of(MixedRun::new()),
-    },
-    Row {
-        name: "translate 1 order",
-        functions: &["translate"],
-        prepare: || Prepared::of(Translations::every_code(1, 1)),
-    },
-    Row {
-        name: "translate 8 orders",
-        functions: &["translate"],
-        prepare: || Prepared::of(Translations::every_code(8, 1)),
-    },
-    Row {
-        name: "translate 64 orders, waits of 1 tick",
-        functions: &["translate"],
-        prepare: || Prepared::of(Translations::every_code(64, 1)),
-    },
-    Row {
-        name: "translate 64 orders, waits of 65,535 ticks",
-        functions: &["translate"],
-        prepare: || Prepared::of(Translations::every_code(64, 65535)),
-    },
-    Row {
-        name: "translate 64 mirror orders (256 words)",
-        functions: &["translate"],
-        prepare: || Prepared::of(Translations::most_words()),
-    },
-    Row {
-        name: "write IR block",
-        functions: &["write_ir"],
-        prepare: || Prepared::of(WrittenBlocks::new(Block::Ir)),
-    },
-    Row {
-        name: "write CCD block",
-        functions: &["write_ccd"],
-        prepare: || Prepared::of(WrittenBlocks::new(Block::Ccd)),
-    },
-    Row {
-        name: "read IR block",
-        functions: &["read_ir"],
-        prepare: || Prepared::of(ReadBlocks::new(Block::Ir)),
-    },
-    Row {
-        name: "read CCD block",
-        functions: &["read_ccd"],
-        prepare: || Prepared::of(ReadBlocks::new(Block::Ccd)),
-    },
+    Row::new("word", &["word"], || Prepared::of(GivenWords::new())),
+    Row::new("tick", &["tick"], || Prepared::of(Ticks::new())),
+    Row::new("words and ticks mixed", &["word", "tick"], || {
+        Prepared::of(MixedRun::new())
+    }),
+    Row::lists("list of 256 words, gaps of 1 to 4 ticks", || {
+        Prepared::of_lists(Lists::near())
+    }),
+    Row::lists("list of 256 words, gaps of 1 tick", || {
+        Prepared::of_lists(Lists::by_gaps_of(1))
+    }),
+    Row::lists("list of 256 words, gaps of 5,000 ticks", || {
+        Prepared::of_lists(Lists::by_gaps_of(5000))
+    }),
+    Row::lists("list of 256 words, gaps of 16,843,009 ticks", || {
+        Prepared::of_lists(Lists::by_gaps_of(16_843_009))
+    }),
+    Row::new("translate 1 order", &["translate"], || {
+        Prepared::of(Translations::every_code(1, 1))
+    }),
+    Row::new("translate 8 orders", &["translate"], || {
+        Prepared::of(Translations::every_code(8, 1))
+    }),
+    Row::new(
+        "translate 64 orders, waits of 1 tick",
+        &["translate"],
+        || Prepared::of(Translations::every_code(64, 1)),
+    ),
+    Row::new(
+        "translate 64 orders, waits of 65,535 ticks",
+        &["translate"],
+        || Prepared::of(Translations::every_code(64, 65535)),
+    ),
+    Row::new(
+        "translate 64 mirror orders (256 words)",
+        &["translate"],
+        || Prepared::of(Translations::most_words()),
+    ),
+    Row::new("write IR block", &["write_ir"], || {
+        Prepared::of(WrittenBlocks::new(Block::Ir))
+    }),
+    Row::new("write CCD block", &["write_ccd"], || {
+        Prepared::of(WrittenBlocks::new(Block::Ccd))
+    }),
+    Row::new("read IR block", &["read_ir"], || {
+        Prepared::of(ReadBlocks::new(Block::Ir))
+    }),
+    Row::new("read CCD block", &["read_ccd"], || {
+        Prepared::of(ReadBlocks::new(Block::Ccd))
+    }),
 ];

@@ -36,6 +36,12 @@ impl<T: Copy + PartialEq> Buffer<T> {
         self.lent = length;
     }
 
+    /// Fills every place and lends the first ones with these values.
+    pub fn refill_with(&mut self, fill: T, values: &[T]) {
+        self.refill(fill, values.len());
+        self.lent().copy_from_slice(values);
+    }
+
     /// Takes over all places of another buffer of the same size.
     pub fn copy_from(&mut self, other: &Buffer<T>) {
         self.places.copy_from_slice(&other.places);

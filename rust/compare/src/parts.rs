@@ -3,7 +3,7 @@
 use crate::random::Random;
 use crate::reduce::Counted;
 use crate::sides::Sides;
-use crate::{blocks, codec, demand3, limits, plans, steps, unpacked};
+use crate::{blocks, codec, demand3, limits, list_limits, lists, plans, steps, unpacked};
 
 pub type Compare = fn(&Sides, &mut Random, u32) -> Counted;
 
@@ -27,6 +27,8 @@ pub const PARTS: &[Part] = &[
     part("every number of a state", steps::every_number),
     part("state lengths", steps::state_lengths),
     part("runs of words and ticks", steps::runs),
+    part("lists of timed words", lists::timed_words),
+    part("lists at the limits", list_limits::lists),
     part("plan fields", plans::fields),
     part("plan forms", plans::forms),
     part("damaged plans", plans::damaged),

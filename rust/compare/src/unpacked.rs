@@ -1,7 +1,9 @@
 //! The wrapper's unpacked answers against the paper's own types.
 
+use crate::lists::ticks_not_rising;
 use crate::orders;
 use crate::random::Random;
+use crate::random_lists::RandomLists;
 use crate::random_plans::any_or_extreme_orders;
 use crate::reduce::{Counted, Failure};
 use crate::sides::{Sides, Typed};
@@ -9,7 +11,7 @@ use crate::states::{self, Numbers};
 use crate::words::Words;
 use paper::{IrCallerBits, Refusal};
 use shabgozim::{place, Act, Cause, CoverMove, Outcome, State, Task, Ticked};
-use shabgozim::{CcdInputs, IrInputs, PlanRefusal, Schedule, Translation, MOST_WORDS};
+use shabgozim::{CcdInputs, IrInputs, ListRefusal, PlanRefusal, Schedule, Translation, MOST_WORDS};
 use std::fmt::Debug;
 
 /// Every sort of answer, from states of every sort.
@@ -31,6 +33,15 @@ pub fn answers(sides: &Sides, random: &mut Random, times: u32) -> Counted {
         plan[at] ^= random.byte() & random.byte() & random.byte();
         count += translation(paper, &state, &plan, random.below(300))?;
         count += schedule(paper, &state, &plan)?;
+    }
+    let lists = RandomLists::new();
+    for _ in 0..20_000 * times {
+        let state = states::any(random);
+        let mut list = lists.any_from(random, &state);
+        if random.once_in(4) {
+            ticks_not_rising(random, &mut list.ticks);
+        }
+        count += timed_words(paper, &state, &list.words, &list.ticks)?;
     }
     Ok(count)
 }
@@ -88,6 +99,43 @@ fn act_of(act: paper::Act) -> Act {
                 steps: cover.steps,
             })
         }
+    }
+}
+
+/// A list in one call.
+fn timed_words(paper: &Typed, state: &Numbers, words: &[u16], ticks: &[u32]) -> Counted {
+    let timed: Vec<(u32, u16)> = ticks.iter().copied().zip(words.iter().copied()).collect();
+    let mut head = State { numbers: *state };
+    let found = head.list(&timed);
+    let found = found.map(|outcomes| outcomes.into_iter().map(number_of).collect());
+    let mut expected = paper::State::from_array(state);
+    let mut outcomes = vec![0; words.len()];
+    let answer = (paper.list)(&mut expected, words, ticks, &mut outcomes);
+    let answer = match answer as u8 {
+        0 => Ok(outcomes),
+        number => Err(number),
+    };
+    let mut count = same(state, found.map_err(ListRefusal::number), answer)?;
+    count += same(state, head.numbers, expected.to_array())?;
+    Ok(count)
+}
+
+/// The number of an outcome in a list.
+fn number_of(outcome: Outcome) -> u16 {
+    match outcome {
+        Outcome::Taken(Act::None) => 0,
+        Outcome::Taken(Act::Exposure) => 1,
+        Outcome::Taken(Act::Housekeeping) => 2,
+        Outcome::Taken(Act::Cover(cover)) => {
+            let cover = paper::CoverMove {
+                direction: cover.opens.into(),
+                wave: cover.wave.into(),
+                sensors: cover.sensors.into(),
+                steps: cover.steps,
+            };
+            paper::Kind::Cover.word(cover.data())
+        }
+        Outcome::Ignored(cause) => cause.number().into(),
     }
 }
 

@@ -118,6 +118,11 @@ pub fn receive(state: &mut State, word: u16) -> Outcome {
     if !in_range(state) {
         return Outcome::Ignored(Cause::StateOutOfRange);
     }
+    receive_in_range(state, word)
+}
+
+/// Gives a word to a head whose state is in range.
+pub fn receive_in_range(state: &mut State, word: u16) -> Outcome {
     if state.busy > 0 && word != STOP_WORD {
         state.ir_time_flag = 1;
         state.vis_time_flag = 1;

@@ -1,11 +1,13 @@
-//! The VIRTIS-M command words, the PEM-M head, stored plans and the two
-//! housekeeping blocks, written from document 01 alone.
+//! The VIRTIS-M command words, the PEM-M head, lists of timed words, stored
+//! plans and the two housekeeping blocks, written from document 01 and
+//! document 02's request P1 alone.
 //!
 //! | module | idea |
 //! |---|---|
 //! | [`words`] | the 28 kinds of command word |
 //! | [`state`] | the numbers a head holds and their ranges |
 //! | [`head`] | what the head makes of a word and of a tick |
+//! | [`list`](mod@list) | a list of timed words in one call |
 //! | [`plan`] | stored plans, taken apart order by order |
 //! | [`translate`](mod@translate) | a plan turned into timed words |
 //! | [`reading`] | a plan read without any words |
@@ -17,6 +19,7 @@
 
 pub mod blocks;
 pub mod head;
+pub mod list;
 pub mod listing;
 pub mod plan;
 pub mod reading;
@@ -29,6 +32,7 @@ pub use blocks::{
     read_ccd, read_ir, write_ccd, write_ir, BlockRefusal, CcdMeaning, IrCallerBits, IrMeaning,
 };
 pub use head::{receive, tick, word, Act, Cause, Outcome, Task, Ticked};
+pub use list::list;
 pub use listing::listing;
 pub use plan::{CoverMove, Order, Refusal};
 pub use reading::{read_plan, LoggedAct, Reading};

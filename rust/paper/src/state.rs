@@ -189,7 +189,7 @@ impl State {
     }
 
     /// Clears all five flags.
-    pub(crate) fn clear_error_flags(&mut self) {
+    pub fn clear_error_flags(&mut self) {
         self.ir_time_flag = 0;
         self.ir_word_flag = 0;
         self.ir_scan_flag = 0;

@@ -5,6 +5,16 @@ extern "C" {
     pub fn shabgozim_in_range(state: *const u16, state_len: usize) -> u32;
     pub fn shabgozim_word(state: *mut u16, state_len: usize, word: u16) -> u32;
     pub fn shabgozim_tick(state: *mut u16, state_len: usize) -> u32;
+    pub fn shabgozim_list(
+        state: *mut u16,
+        state_len: usize,
+        words: *const u16,
+        words_len: usize,
+        ticks: *const u32,
+        ticks_len: usize,
+        outcomes: *mut u16,
+        outcomes_len: usize,
+    ) -> u32;
     pub fn shabgozim_decode(word: u16) -> u32;
     pub fn shabgozim_encode(kind: u8, data: u16) -> u32;
     pub fn shabgozim_translate(

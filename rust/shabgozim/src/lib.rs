@@ -5,14 +5,16 @@
 //! |---|---|
 //! | [`decode`], [`encode`], [`kind`] | the 28 kinds of command word |
 //! | [`State`], [`place`] | a head's state, and what it makes of words and ticks |
+//! | [`State::list`], [`ListRefusal`] | a list of timed words in one call |
 //! | [`schedule`], [`translate`] | a stored plan turned into timed words |
 //! | [`write_ir`], [`read_ir`], [`write_ccd`], [`read_ccd`] | the two housekeeping blocks |
 //! | [`raw`] | the same functions over slices, answers still packed |
 //!
-//! Every answer is the one that document 01 gives, for any input; what the
-//! library proves holds of the C functions, and this crate only unpacks.
+//! Every answer is the one that document 01 gives (for lists document 02's
+//! request P1), for any input; what the library proves holds of the C
+//! functions, and this crate only unpacks.
 //!
-//! # Example
+//! # Examples
 //!
 //! ```
 //! use shabgozim::{place, Act, Outcome, State};
@@ -27,15 +29,32 @@
 //! assert_eq!(head.numbers[place::SINE], 0x1100);
 //! assert!(!head.is_at_rest());
 //! ```
+//!
+//! A list of words, each with its tick, goes in by one call:
+//!
+//! ```
+//! use shabgozim::{Act, Cause, ListRefusal, Outcome, State};
+//!
+//! let mut head = State::power_on();
+//! let outcomes = head.list(&[(0, 0x4000), (2, 0xD801), (3, 0xD801)]).unwrap();
+//! assert_eq!(outcomes[0], Outcome::Taken(Act::Housekeeping));
+//! // The head is busy for three ticks.
+//! assert_eq!(outcomes[1], Outcome::Ignored(Cause::WrongTime));
+//! assert_eq!(outcomes[2], Outcome::Taken(Act::None));
+//! // Ticks must rise.
+//! assert_eq!(head.list(&[(5, 0), (5, 0)]), Err(ListRefusal::NoList));
+//! ```
 
 mod blocks;
 mod ffi;
+mod list;
 mod plan;
 pub mod raw;
 mod state;
 mod words;
 
 pub use blocks::*;
+pub use list::*;
 pub use plan::*;
 pub use state::*;
 pub use words::*;

@@ -3,7 +3,7 @@
 use crate::raw;
 use crate::state::State;
 
-/// The most words a plan can give.
+/// The most words a plan can give, and a list may have.
 pub const MOST_WORDS: usize = 256;
 
 /// How many words a plan gave, and its last clock.

@@ -31,6 +31,25 @@ pub fn tick(state: &mut [u16]) -> u32 {
     unsafe { ffi::shabgozim_tick(state.as_mut_ptr(), state.len()) }
 }
 
+/// Gives the head a list of timed words: 0, 21, or 31 where the ticks don't
+/// rise, the lists are of unequal length or over 256, or `outcomes` is shorter
+/// than they are. The outcome of each word is the answer of [`word`].
+pub fn list(state: &mut [u16], words: &[u16], ticks: &[u32], outcomes: &mut [u16]) -> u32 {
+    // SAFETY: as above, for four slices.
+    unsafe {
+        ffi::shabgozim_list(
+            state.as_mut_ptr(),
+            state.len(),
+            words.as_ptr(),
+            words.len(),
+            ticks.as_ptr(),
+            ticks.len(),
+            outcomes.as_mut_ptr(),
+            outcomes.len(),
+        )
+    }
+}
+
 /// Data in bits 0 to 15, kind in 16 to 23, number (0, 23, 24) in 24 to 31.
 pub fn decode(word: u16) -> u32 {
     // SAFETY: plain numbers.

@@ -174,7 +174,7 @@ impl State {
 }
 
 impl Outcome {
-    fn of(answer: u32) -> Outcome {
+    pub(crate) fn of(answer: u32) -> Outcome {
         match answer {
             0 => Outcome::Taken(Act::None),
             1 => Outcome::Taken(Act::Exposure),

@@ -2,10 +2,12 @@
 
 mod blocks;
 mod head;
+mod lists;
 mod plans;
 
 pub use blocks::{ReadBlocks, WrittenBlocks};
 pub use head::{GivenWords, MixedRun, Ticks};
+pub use lists::Lists;
 pub use plans::Translations;
 
 use compare::random::Random;

@@ -2,6 +2,8 @@
 
 use super::{Library, Paper, Shown, Side, Typed};
 
+/// State, words, their ticks, and the buffer for outcomes.
+pub type List = fn(&mut [u16], &[u16], &[u32], &mut [u16]) -> u32;
 /// State, plan, and the buffers for words and ticks.
 pub type Translate = fn(&[u16], &[u8], &mut [u16], &mut [u32]) -> u64;
 
@@ -12,6 +14,7 @@ pub struct Functions {
     pub in_range: fn(&[u16]) -> u32,
     pub word: fn(&mut [u16], u16) -> u32,
     pub tick: fn(&mut [u16]) -> u32,
+    pub list: List,
     pub decode: fn(u16) -> u32,
     pub encode: fn(u8, u16) -> u32,
     pub translate: Translate,
@@ -37,6 +40,7 @@ impl Functions {
             in_range: S::in_range,
             word: S::word,
             tick: S::tick,
+            list: S::list,
             decode: S::decode,
             encode: S::encode,
             translate: S::translate,

@@ -23,6 +23,10 @@ impl Side for Library {
         raw::tick(state)
     }
 
+    fn list(state: &mut [u16], words: &[u16], ticks: &[u32], outcomes: &mut [u16]) -> u32 {
+        raw::list(state, words, ticks, outcomes)
+    }
+
     fn decode(word: u16) -> u32 {
         raw::decode(word)
     }

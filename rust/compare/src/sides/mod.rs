@@ -7,7 +7,7 @@ mod paper;
 mod paper_blocks;
 mod typed;
 
-pub use functions::{Functions, Sides};
+pub use functions::{Functions, List, Sides};
 pub use library::Library;
 pub use paper::Paper;
 pub use typed::Typed;
@@ -17,6 +17,7 @@ pub trait Side {
     fn in_range(state: &[u16]) -> u32;
     fn word(state: &mut [u16], word: u16) -> u32;
     fn tick(state: &mut [u16]) -> u32;
+    fn list(state: &mut [u16], words: &[u16], ticks: &[u32], outcomes: &mut [u16]) -> u32;
     fn decode(word: u16) -> u32;
     fn encode(kind: u8, data: u16) -> u32;
 

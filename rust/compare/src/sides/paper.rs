@@ -30,6 +30,10 @@ impl Side for Paper {
         paper_tick(state)
     }
 
+    fn list(state: &mut [u16], words: &[u16], ticks: &[u32], outcomes: &mut [u16]) -> u32 {
+        paper_list(state, words, ticks, outcomes)
+    }
+
     fn decode(word: u16) -> u32 {
         paper_decode(word)
     }
@@ -127,6 +131,18 @@ fn flag_bits(flags: ErrorFlags) -> u32 {
         | u32::from(flags.ir_scan) << 2
         | u32::from(flags.vis_time) << 3
         | u32::from(flags.vis_word) << 4
+}
+
+#[no_mangle]
+#[inline(never)]
+fn paper_list(state: &mut [u16], words: &[u16], ticks: &[u32], outcomes: &mut [u16]) -> u32 {
+    let Some(places) = places(state) else {
+        return STATE_REFUSED;
+    };
+    let mut head = State::from_array(places);
+    let answer = paper::list(&mut head, words, ticks, outcomes);
+    *places = head.to_array();
+    u32::from(answer)
 }
 
 #[no_mangle]

@@ -56,6 +56,13 @@ pub fn orders(text: &str) -> usize {
     count
 }
 
+/// How many words the list of a case has.
+pub fn listed_words(text: &str) -> usize {
+    let line = text.lines().next().unwrap_or("");
+    let words = line.strip_prefix("words").expect("a list");
+    words.split_whitespace().count()
+}
+
 /// How many places of the state of a case are not as after power-on.
 pub fn changes(text: &str) -> usize {
     text.matches(" = ").count()

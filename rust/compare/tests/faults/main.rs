@@ -3,6 +3,7 @@
 
 mod blocks;
 mod fault;
+mod lists;
 mod plans;
 mod words;
 
@@ -12,6 +13,11 @@ use fault::Fault;
 #[test]
 fn faults_in_words_and_ticks_are_found() {
     words::FAULTS.iter().for_each(Fault::must_be_found);
+}
+
+#[test]
+fn faults_in_lists_are_found() {
+    lists::FAULTS.iter().for_each(Fault::must_be_found);
 }
 
 #[test]
@@ -36,7 +42,7 @@ fn without_a_fault_nothing_is_found() {
 
 #[test]
 fn every_part_has_a_fault_to_find() {
-    let faults = [words::FAULTS, plans::FAULTS, blocks::FAULTS].concat();
+    let faults = [words::FAULTS, lists::FAULTS, plans::FAULTS, blocks::FAULTS].concat();
     for part in PARTS {
         let has_fault = faults.iter().any(|fault| fault.part == part.name);
         assert!(has_fault, "{}", part.name);
