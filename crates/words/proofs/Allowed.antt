@@ -1,18 +1,17 @@
--- Laws of `allowed`: how tables decide it, and what allowed data are bounded by.
+-- Laws of `allowed`: what decides it, and what allowed data are bounded by.
 -- Assumes nothing.
 use mathlib.Core.Path.{_≡_, refl, sym, _∙_}
 use mathlib.Core.Bool.{Bool, true, false, not, _&&_, _||_, false≢true}
-use mathlib.Core.List.{List}
 use Prim.Native.Nat.{ℕ, zero, suc, _<_, _≤_, _%_}
 use native.Mathlib.Nat.{mod-lt}
 use native.Mathlib.Decide.{decLt}
 use native.Mathlib.Omega.{arith}
 use borrow.Author.Tests.{lt-leb, leb-true}
-use lib.Dec.{T, leb, eqb, lit<}
-use lib.ListN.{getD, List·getD-eq-default}
-use Rattle.words.specs.Kinds.{rows, row, least, greatest, allowed, cover, mostSteps, rowOf}
+use lib.Dec.{leb, eqb, lit<}
+use lib.ListN.{List·getD-eq-default}
+use Rattle.words.specs.Kinds.{rows, row, least, greatest, allowed, ccdDelay, cover, mostSteps, rowOf}
 use Rattle.words.proofs.Tests.{and-left, and-right}
-use Rattle.words.proofs.Tables.{tabulates, tabulates-at}
+use Rattle.words.proofs.Tables.{Others, others-at}
 
 no-row : (k : ℕ) → 28 ≤ k → rowOf k ≡ row 1 0
 unfolding rows
@@ -31,11 +30,28 @@ allowed-none k d h = rw (no-row k h) (go d)
         absorbed true = refl
         absorbed false = refl
 
--- tables of the least and greatest data decide it
-pub allowed-by : (lo hi : List ℕ) (k d : ℕ) → T (tabulates lo least 28) → T (tabulates hi greatest 28) → k < 28
-    → (leb (getD lo k 0) d && leb d (getD hi k 0) && (not (eqb k 27) || leb (d % 128) 81)) ≡ allowed k d
+-- the least and the greatest data of a kind decide it
+pub allowed-by : (lo hi k d : ℕ) → lo ≡ least k → hi ≡ greatest k
+    → (leb lo d && leb d hi && (not (eqb k 27) || leb (d % 128) 81)) ≡ allowed k d
 unfolding allowed
-allowed-by lo hi k d tl th h = rw (tabulates-at lo least 28 tl k h, tabulates-at hi greatest 28 th k h)
+allowed-by lo hi k d l h = rw (l, h)
+
+-- the least data of CCD DELAY, and of the other kinds
+pub least-delay : (k : ℕ) → k ≡ ccdDelay → 5 ≡ least k
+unfolding least
+least-delay k e = rw e
+
+pub least-others : (k : ℕ) → (k ≡ ccdDelay → ⊥) → k < 28 → 0 ≡ least k
+unfolding least
+least-others k ne h = others-at least 0 k 28 (tt, ne) h
+
+-- the greatest data of kind j, and of the last kind
+pub greatest-at : (k j v : ℕ) → k ≡ j → v ≡ greatest j → v ≡ greatest k
+greatest-at k j v e is = rw e is
+
+pub greatest-last : (k : ℕ) → Others (λ k. k) cover k 28 → k < 28 → 0x3FF ≡ greatest k
+unfolding greatest
+greatest-last k o h = rw (← others-at (λ k. k) cover k 28 o h)
 
 -- only kinds allow anything
 pub allowed-kind : (k d : ℕ) → allowed k d ≡ true → k < 28

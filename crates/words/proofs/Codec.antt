@@ -1,4 +1,4 @@
--- Laws of the decoder and the encoder: how a table of kinds decodes, and the two round trips.
+-- Laws of the decoder and the encoder: the kind of a word, each way through the code, and the two round trips.
 -- Assumes nothing.
 use mathlib.Core.Path.{_≡_, refl, sym, _∙_, ap}
 use mathlib.Core.Bool.{Bool, true, false, cond, not}
@@ -19,7 +19,7 @@ use Rattle.words.specs.declared.Decoded.the-variants.{Word, Unknown, Out
 use Rattle.words.specs.declared.Encoded.{Encoded}
 use Rattle.words.specs.declared.Encoded.the-variants.{Made, Refused}
 use Rattle.words.proofs.Allowed.{allowed-kind, allowed-bits}
-use Rattle.words.proofs.Tables.{agree, agree-at, tabulates, tabulates-at, below, below-at}
+use Rattle.words.proofs.Tables.{agree, agree-at, tabulates, tabulates-at, below, below-at, Others, others-at}
 
 -- the number of what was decoded or encoded is the one that the word, or the kind and the data, give
 pub finding-number : (w : ℕ) (r : Decoded) → r ≡ decodeOf w → decodedNumber r ≡ findingNumber w
@@ -40,9 +40,12 @@ encoding-number k d r e = rw e (go (allowed k d))
     go true = refl
     go false = refl
 
--- a table of the kinds by identifier
-pub kind-by : (t : List ℕ) (w : ℕ) → T (tabulates t kindOf 64) → w < 65536 → getD t (w / 1024) 0 ≡ kindOf (w / 1024)
-kind-by t w ok h = tabulates-at t kindOf 64 ok (w / 1024) (omega arith)
+-- the kind of an identifier i, and of one that no kind has
+pub kind-at : (w i k : ℕ) → w / 1024 ≡ i → k ≡ kindOf i → k ≡ kindOf (w / 1024)
+kind-at w i k e is = rw e is
+
+pub no-kind : (w : ℕ) → Others kindOf 28 (w / 1024) 64 → w < 65536 → 28 ≡ kindOf (w / 1024)
+no-kind w o h = others-at kindOf 28 (w / 1024) 64 o (omega arith)
 
 -- the three ways through the decoder: k is the kind of the identifier, b whether its data are allowed
 module _ (w k : ℕ) (kind : k ≡ kindOf (identifier w)) where

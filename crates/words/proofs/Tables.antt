@@ -1,11 +1,12 @@
--- Rules of a table: each is one test that antt computes over all entries, and a law that reads the test at any entry.
+-- Rules of a table and of a `match` on a number: each is what antt computes over all entries, and a law that reads it at any entry.
 -- Assumes nothing.
-use mathlib.Core.Path.{_≡_, sym, subst}
-use mathlib.Core.Bool.{Bool, true, false, _&&_}
+use mathlib.Core.Path.{_≡_, refl, sym, subst}
+use mathlib.Core.Bool.{Bool, true, false, cond, _&&_}
 use mathlib.Core.List.{List, [], _∷_}
 use Prim.Native.Nat.{ℕ, zero, suc, _<_}
 use native.Mathlib.Nat.{le-of-suc-le-suc, not-suc-le-zero}
 use native.Mathlib.Decide.{ℕ-discrete}
+use borrow.Author.Tests.{eqb-true}
 use lib.Arith.{lt-of-le-ne}
 use lib.Dec.{T, eqb, eqb→eq, ltb, ltb→lt}
 use lib.ListN.{getD}
@@ -48,3 +49,19 @@ pub below-at : (m : ℕ) (l : List ℕ) → T (below m l) → (k : ℕ) → getD
 below-at m [] t k = ltb→lt 0 m t
 below-at m (x ∷ xs) t zero = ltb→lt x m (left (ltb x m) (below m xs) t)
 below-at m (x ∷ xs) t (suc k) = below-at m xs (right (ltb x m) (below m xs) t) k
+
+-- how a `match` with an arm for each number below n at which f is not v says that x has none of these arms
+abbrev pub Others : (ℕ → ℕ) → ℕ → ℕ → ℕ → Type 0
+Others f v x zero = Unit {0}
+Others f v x (suc n) = cond (eqb (f n) v) (Others f v x n) (Others f v x n × (x ≡ n → ⊥))
+
+pub others-at : (f : ℕ → ℕ) (v x n : ℕ) → Others f v x n → x < n → v ≡ f x
+others-at f v x zero o h = absurd (not-suc-le-zero h)
+others-at f v x (suc n) o h = go (others-at f v x n) (eqb (f n) v) refl o (ℕ-discrete x n)
+  where
+    go : (Others f v x n → x < n → v ≡ f x) → (b : Bool) → eqb (f n) v ≡ b → cond b (Others f v x n) (Others f v x n × (x ≡ n → ⊥))
+        → Dec (x ≡ n) → v ≡ f x
+    go rest true p o (yes e) = rw (e, eqb-true (f n) v p)
+    go rest false p o (yes e) = absurd (o .1 e)
+    go rest true p o (no ne) = rest o (lt-of-le-ne (le-of-suc-le-suc h) ne)
+    go rest false p o (no ne) = rest (o .0) (lt-of-le-ne (le-of-suc-le-suc h) ne)

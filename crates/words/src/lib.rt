@@ -33,139 +33,9 @@ use kinds::WIN_X2;
 use kinds::WIN_Y1;
 use kinds::WIN_Y2;
 ghost use mathlib.Core.Path.{_≡_};
-ghost use Rattle.words.specs.Kinds.{allowed, identifier, kindOf};
+ghost use Prim.Native.Nat.{_<_};
+ghost use Rattle.words.specs.Kinds.{allowed, greatest, identifier, kindOf, least};
 ghost use Rattle.words.specs.Codec.{decodeOf, encodeOf, decodedNumber, encodedNumber, findingNumber, encodingNumber};
-
-// The kind of each identifier; KINDS where no kind has it.
-const KIND_OF: [u8; 64] = [
-    NOP, // 00
-    KINDS, // 01
-    IR_EXPO, // 02
-    KINDS, // 03
-    COVER, // 04
-    KINDS, // 05
-    CCD_DELAY, // 06
-    KINDS, // 07
-    SIN_M, // 08
-    KINDS, // 09
-    WIN_X1, // 0A
-    KINDS, // 0B
-    VDETCOM_L, // 0C
-    KINDS, // 0D
-    KINDS, // 0E
-    KINDS, // 0F
-    HK, // 10
-    KINDS, // 11
-    ANNEALING, // 12
-    KINDS, // 13
-    SWITCH, // 14
-    KINDS, // 15
-    CCD_LAMP, // 16
-    KINDS, // 17
-    COS_M, // 18
-    KINDS, // 19
-    WIN_X2, // 1A
-    KINDS, // 1B
-    VDETADJ_L, // 1C
-    KINDS, // 1D
-    KINDS, // 1E
-    KINDS, // 1F
-    START, // 20
-    KINDS, // 21
-    IR_LAMP, // 22
-    KINDS, // 23
-    IR_WIN_MODE, // 24
-    KINDS, // 25
-    CCD_EXPO, // 26
-    KINDS, // 27
-    SIN_L, // 28
-    KINDS, // 29
-    WIN_Y1, // 2A
-    KINDS, // 2B
-    VDETADJ_M, // 2C
-    KINDS, // 2D
-    KINDS, // 2E
-    KINDS, // 2F
-    STOP, // 30
-    KINDS, // 31
-    SHUTTER, // 32
-    KINDS, // 33
-    VDETCOM_M, // 34
-    KINDS, // 35
-    IR_DETECTOR, // 36
-    KINDS, // 37
-    COS_L, // 38
-    KINDS, // 39
-    WIN_Y2, // 3A
-    KINDS, // 3B
-    IR_DELAY, // 3C
-    KINDS, // 3D
-    KINDS, // 3E
-    KINDS, // 3F
-];
-
-// The least and the greatest data of each kind.
-const LEAST: [u16; 28] = [
-    0, // NOP
-    0, // START
-    0, // HK
-    0, // STOP
-    0, // IR DETECTOR
-    0, // IR WIN MODE
-    0, // VDETCOM M
-    0, // VDETCOM L
-    0, // VDETADJ M
-    0, // VDETADJ L
-    0, // IR DELAY
-    0, // IR EXPO
-    0, // WIN X1
-    0, // WIN Y1
-    0, // WIN X2
-    0, // WIN Y2
-    LEAST_CCD_DELAY, // CCD DELAY
-    0, // CCD EXPO
-    0, // CCD LAMP
-    0, // IR LAMP
-    0, // SHUTTER
-    0, // ANNEALING
-    0, // SIN M
-    0, // SIN L
-    0, // COS M
-    0, // COS L
-    0, // SWITCH
-    0, // COVER
-];
-
-const GREATEST: [u16; 28] = [
-    0x0, // NOP
-    0x0, // START
-    0x0, // HK
-    0x0, // STOP
-    0x1, // IR DETECTOR
-    0x1, // IR WIN MODE
-    0xF, // VDETCOM M
-    0xFF, // VDETCOM L
-    0xF, // VDETADJ M
-    0xFF, // VDETADJ L
-    0x3FF, // IR DELAY
-    0x3FF, // IR EXPO
-    0x3FF, // WIN X1
-    0x1FF, // WIN Y1
-    0x3FF, // WIN X2
-    0x1FF, // WIN Y2
-    0x3FF, // CCD DELAY
-    0x3FF, // CCD EXPO
-    0x7, // CCD LAMP
-    0x1F, // IR LAMP
-    0x1F, // SHUTTER
-    0x7F, // ANNEALING
-    0x1F, // SIN M
-    0xFF, // SIN L
-    0xF, // COS M
-    0xFF, // COS L
-    0x1, // SWITCH
-    0x3FF, // COVER
-];
 
 // The identifier of each kind.
 const IDENTIFIER: [u16; 28] = [
@@ -236,6 +106,55 @@ impl Encoded {
     }
 }
 
+// The least data of each kind.
+fn least(kind: u8) -> u16
+    requires { ⌜ kind < 28 ⌝ }
+    ensures { λ r. ⌜ r ≡ least kind ⌝ }
+{
+    if kind == CCD_DELAY {
+        LEAST_CCD_DELAY
+    } else {
+        0
+    }
+}
+
+// The greatest data of each kind.
+fn greatest(kind: u8) -> u16
+    requires { ⌜ kind < 28 ⌝ }
+    ensures { λ r. ⌜ r ≡ greatest kind ⌝ }
+{
+    match kind {
+        NOP => 0x0,
+        START => 0x0,
+        HK => 0x0,
+        STOP => 0x0,
+        IR_DETECTOR => 0x1,
+        IR_WIN_MODE => 0x1,
+        VDETCOM_M => 0xF,
+        VDETCOM_L => 0xFF,
+        VDETADJ_M => 0xF,
+        VDETADJ_L => 0xFF,
+        IR_DELAY => 0x3FF,
+        IR_EXPO => 0x3FF,
+        WIN_X1 => 0x3FF,
+        WIN_Y1 => 0x1FF,
+        WIN_X2 => 0x3FF,
+        WIN_Y2 => 0x1FF,
+        CCD_DELAY => 0x3FF,
+        CCD_EXPO => 0x3FF,
+        CCD_LAMP => 0x7,
+        IR_LAMP => 0x1F,
+        SHUTTER => 0x1F,
+        ANNEALING => 0x7F,
+        SIN_M => 0x1F,
+        SIN_L => 0xFF,
+        COS_M => 0xF,
+        COS_L => 0xFF,
+        SWITCH => 0x1,
+        _ => 0x3FF, // COVER
+    }
+}
+
 // Whether a word of this kind may hold these data. A number that is no kind allows none.
 pub fn allows(kind: u8, bits: u16) -> bool
     ensures { λ r. ⌜ r ≡ allowed kind bits ⌝ }
@@ -243,16 +162,45 @@ pub fn allows(kind: u8, bits: u16) -> bool
     if KINDS <= kind {
         return false;
     }
-    let k = kind as usize;
     let steps = (kind != COVER) | (bits % 128 <= MOST_STEPS);
-    (LEAST[k] <= bits) & (bits <= GREATEST[k]) & steps
+    (least(kind) <= bits) & (bits <= greatest(kind)) & steps
 }
 
 // The kind of a word's identifier; KINDS where no kind has it.
 pub fn kind_of(word: u16) -> u8
     ensures { λ r. ⌜ r ≡ kindOf (identifier word) ⌝ }
 {
-    KIND_OF[(word / 1024) as usize]
+    match word / 1024 {
+        0x00 => NOP,
+        0x02 => IR_EXPO,
+        0x04 => COVER,
+        0x06 => CCD_DELAY,
+        0x08 => SIN_M,
+        0x0A => WIN_X1,
+        0x0C => VDETCOM_L,
+        0x10 => HK,
+        0x12 => ANNEALING,
+        0x14 => SWITCH,
+        0x16 => CCD_LAMP,
+        0x18 => COS_M,
+        0x1A => WIN_X2,
+        0x1C => VDETADJ_L,
+        0x20 => START,
+        0x22 => IR_LAMP,
+        0x24 => IR_WIN_MODE,
+        0x26 => CCD_EXPO,
+        0x28 => SIN_L,
+        0x2A => WIN_Y1,
+        0x2C => VDETADJ_M,
+        0x30 => STOP,
+        0x32 => SHUTTER,
+        0x34 => VDETCOM_M,
+        0x36 => IR_DETECTOR,
+        0x38 => COS_L,
+        0x3A => WIN_Y2,
+        0x3C => IR_DELAY,
+        _ => KINDS,
+    }
 }
 
 pub fn decode(word: u16) -> Decoded
