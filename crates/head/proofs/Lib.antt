@@ -12,4 +12,6 @@ pub mod RowSet
 pub mod Ways
 pub mod Numbered
 pub mod BusyTicks
+pub mod Rising
+pub mod Giving
 pub mod Lists

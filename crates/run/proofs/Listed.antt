@@ -26,7 +26,7 @@ use Rattle.head.specs.declared.word.Outcome.the-variants.{Taken, Ignored}
 use Rattle.head.specs.declared.list.ListAnswer.the-variants.{Done}
 use Rattle.head.proofs.Ticks.{ticks-settings}
 use Rattle.head.proofs.BusyTicks.{ticks-still}
-use Rattle.head.proofs.Lists.{listed-keeps}
+use Rattle.head.proofs.Giving.{listed-keeps}
 use Rattle.orders.specs.declared.order.Order.{Order}
 use Rattle.plan.specs.Stored.{planOf, ordersIn}
 use Rattle.schedule.specs.Earliest.{isTaken}

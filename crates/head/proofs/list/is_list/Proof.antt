@@ -1,6 +1,6 @@
 -- `head::list::is_list` meets its contract.
 -- Assumes nothing.
-use Rattle.head.proofs.Lists.{list-unequal, list-long, list-judged}
+use Rattle.head.proofs.Rising.{list-unequal, list-long, list-judged}
 use borrow.Author.Needs.{needs}
 use Rattle.head.proofs.list.is_list.Statement.{statement}
 use Rattle.head.proofs.list.is_list.Tie as tie

@@ -4,7 +4,7 @@ use mathlib.Core.Path.{_≡_}
 use Prim.Native.Nat.{_-_, _≤_}
 use lib.ListN.{length, drop}
 use Rattle.head.specs.List.{rising}
-use Rattle.head.proofs.Lists.{rise-more, rise-not, rise-all}
+use Rattle.head.proofs.Rising.{rise-more, rise-not, rise-all}
 use borrow.Author.Needs.{needs}
 use Rattle.head.proofs.list.rise.Statement.{statement}
 use Rattle.head.proofs.list.rise.Tie as tie

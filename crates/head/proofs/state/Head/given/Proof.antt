@@ -2,7 +2,7 @@
 -- Assumes nothing.
 use Prim.Native.Nat.{_-_}
 use lib.ListN.{length}
-use Rattle.head.proofs.Lists.{Giving, giving-first, giving-next, giving-head, giving-written, giving-ticks}
+use Rattle.head.proofs.Giving.{Giving, giving-first, giving-next, giving-head, giving-written, giving-ticks}
 use borrow.Author.Needs.{needs}
 use Rattle.head.proofs.state.Head.given.Statement.{statement}
 use Rattle.head.proofs.state.Head.given.Tie as tie

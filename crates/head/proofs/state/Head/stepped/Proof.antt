@@ -1,6 +1,6 @@
 -- `head::state::Head::stepped` meets its contract.
 -- Assumes nothing.
-use Rattle.head.proofs.Lists.{number-fits, step-head, step-number}
+use Rattle.head.proofs.Giving.{number-fits, step-head, step-number}
 use borrow.Author.Needs.{needs}
 use Rattle.head.proofs.state.Head.stepped.Statement.{statement}
 use Rattle.head.proofs.state.Head.stepped.Tie as tie
