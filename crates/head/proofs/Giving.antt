@@ -13,18 +13,19 @@ use lib.Dec.{ltb}
 use lib.ListN.{length, getD, drop, set, drop-of-length-le, length-set}
 use lib.Seq.{drop-cons, sets, sets-eq}
 use Rattle.words.proofs.Tests.{and-right}
+use Rattle.timed.specs.List.{rising, isList}
+use Rattle.timed.proofs.Rising.{list-even, list-rises}
 use Rattle.head.specs.Range.{inRange}
 use Rattle.head.specs.Word.{answerOf}
 use Rattle.head.specs.Tick.{ticksOf}
 use Rattle.head.specs.Ticks.{elapsed}
 use Rattle.head.specs.Numbers.{outcomeNumber}
-use Rattle.head.specs.List.{gapAfter, stepped, headListed, outcomesListed, numbersListed, rising, isList}
+use Rattle.head.specs.List.{gapAfter, stepped, headListed, outcomesListed, numbersListed}
 use Rattle.head.specs.declared.state.Head.{Head}
 use Rattle.head.specs.declared.word.Answered.{Answered}
 use Rattle.head.proofs.Keep.{word-keeps, ticks-keep}
 use Rattle.head.proofs.Ticks.{ticks-elapsed}
 use Rattle.head.proofs.Numbered.{answer-most}
-use Rattle.head.proofs.Rising.{list-even, list-rises}
 
 -- one number for each word
 pub numbers-long : (ws ts : List ℕ) (s : Head) → length ws ≡ length ts → length (numbersListed ws ts s) ≡ length ws

@@ -12,6 +12,6 @@ pub mod RowSet
 pub mod Ways
 pub mod Numbered
 pub mod BusyTicks
-pub mod Rising
+pub mod Gaps
 pub mod Giving
 pub mod Lists

@@ -8,14 +8,15 @@ use borrow.Author.Tests.{leb-true, not-true, not-false}
 use lib.Dec.{eqb, leb}
 use lib.ListN.{length, drop}
 use Rattle.words.proofs.Tests.{and-left, and-right}
+use Rattle.timed.specs.List.{rising, mostWords, isList}
+use Rattle.timed.proofs.Rising.{list-even}
 use Rattle.head.specs.Range.{inRange}
 use Rattle.head.specs.Numbers.{causeNumber}
-use Rattle.head.specs.List.{headListed, numbersListed, rising, mostListed, isList, listOf, outcomesAfter, listAnswerNumber, listNumber}
+use Rattle.head.specs.List.{headListed, numbersListed, listOf, outcomesAfter, listAnswerNumber, listNumber}
 use Rattle.head.specs.declared.state.Head.{Head}
 use Rattle.head.specs.declared.word.Cause.the-variants.{State}
 use Rattle.head.specs.declared.list.ListAnswer.{ListAnswer}
 use Rattle.head.specs.declared.list.ListAnswer.the-variants.{Done, StateRefused, ListRefused}
-use Rattle.head.proofs.Rising.{list-even}
 use Rattle.head.proofs.Giving.{numbers-long}
 
 -- `number`: r is the cause's number
@@ -28,7 +29,7 @@ list-number : (s : Head) (ws ts : List ℕ) (room : ℕ) → inRange s ≡ true 
     → listNumber s ws ts room ≡ cond b 0 31
 unfolding listNumber isList
 list-number s ws ts room ranged b e =
-    rw (ranged, ← e) (go (rising ts) (eqb (length ws) (length ts)) (leb (length ws) mostListed) (leb (length ws) room))
+    rw (ranged, ← e) (go (rising ts) (eqb (length ws) (length ts)) (leb (length ws) mostWords) (leb (length ws) room))
   where
     go : (up even few fits : Bool)
         → cond {A = ℕ} (not up) 31 (cond (not even) 31 (cond (not few) 31 (cond (not fits) 31 0))) ≡ cond (even && few && up && fits) 0 31

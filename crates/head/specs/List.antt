@@ -1,10 +1,11 @@
 -- Document 02, request P1: a list of timed words in one call, as if its words and the ticks between them had gone in singly.
 -- Assumes nothing.
 use Prim.Native.Nat.{ℕ, _-_}
-use mathlib.Core.Bool.{Bool, true, cond, not, _&&_}
+use mathlib.Core.Bool.{cond, not, _&&_}
 use mathlib.Core.List.{List, [], _∷_, _++_, map}
-use lib.Dec.{eqb, leb, ltb}
+use lib.Dec.{eqb, leb}
 use lib.ListN.{length, drop}
+use Rattle.timed.specs.List.{rising, mostWords, isList}
 use Rattle.head.specs.Range.{inRange}
 use Rattle.head.specs.Word.{answerOf}
 use Rattle.head.specs.Tick.{ticksOf}
@@ -42,19 +43,6 @@ outcomesListed (w ∷ ws) (t ∷ ts) s = answerOf s w .outcome ∷ outcomesListe
 unfoldable pub numbersListed : List ℕ → List ℕ → Head → List ℕ
 numbersListed ws ts s = map outcomeNumber (outcomesListed ws ts s)
 
--- Strictly rising.
-unfoldable pub rising : List ℕ → Bool
-rising [] = true
-rising (t ∷ []) = true
-rising (t ∷ (u ∷ ts)) = ltb t u && rising (u ∷ ts)
-
-abbrev pub mostListed : ℕ
-mostListed = 256
-
--- As many words as ticks, at most 256, and the ticks rise.
-unfoldable pub isList : List ℕ → List ℕ → Bool
-isList ws ts = eqb (length ws) (length ts) && leb (length ws) mostListed && rising ts
-
 -- 21 first, then 31: no list, or a buffer for the outcomes of fewer places than it has words. Nothing is done then.
 unfoldable pub listOf : Head → List ℕ → List ℕ → ℕ → Listed
 listOf s ws ts room =
@@ -80,5 +68,5 @@ listNumber s ws ts room =
     cond (not (inRange s)) 21
     (cond (not (rising ts)) 31
     (cond (not (eqb (length ws) (length ts))) 31
-    (cond (not (leb (length ws) mostListed)) 31
+    (cond (not (leb (length ws) mostWords)) 31
     (cond (not (leb (length ws) room)) 31 0))))

@@ -1,19 +1,18 @@
 // A list of timed words in one call (document 02, request P1).
 use crate::state::Head;
 use crate::word::Cause;
+use timed::is_list;
 ghost use mathlib.Core.Path.{_≡_};
 ghost use mathlib.Core.Bool.{true};
 ghost use mathlib.Core.List.{_++_};
 ghost use Prim.Native.Nat.{_+_, _<_, _≤_};
 ghost use lib.ListN.{length, drop, getD};
+ghost use Rattle.timed.specs.List.{rising, isList};
 ghost use Rattle.head.specs.Range.{inRange};
 ghost use Rattle.head.specs.Word.{answerOf};
 ghost use Rattle.head.specs.Tick.{ticksOf};
 ghost use Rattle.head.specs.Numbers.{outcomeNumber};
-ghost use Rattle.head.specs.List.{gapAfter, headListed, numbersListed, rising, isList, listOf, outcomesAfter, listAnswerNumber, listNumber};
-
-// The most words of a list.
-pub const MOST_LISTED: usize = 256;
+ghost use Rattle.head.specs.List.{gapAfter, headListed, numbersListed, listOf, outcomesAfter, listAnswerNumber, listNumber};
 
 // The ticks that pass after the last word: its own.
 const LAST_GAP: u32 = 1;
@@ -42,33 +41,6 @@ impl ListAnswer {
             ListAnswer::ListRefused => 31,
         }
     }
-}
-
-// Whether each tick is after the one before it.
-fn rise(ticks: &[u32]) -> bool
-    ensures { λ r. ⌜ r ≡ rising (now (ticks .entry)) ⌝ }
-{
-    let mut i: usize = 0;
-    while i + 1 < ticks.len() {
-        if ticks[i + 1] <= ticks[i] {
-            return false;
-        }
-        i += 1;
-    }
-    true
-}
-
-// Whether words and ticks make a list.
-pub fn is_list(words: &[u16], ticks: &[u32]) -> bool
-    ensures { λ r. ⌜ r ≡ isList (now (words .entry)) (now (ticks .entry)) ⌝ }
-{
-    if words.len() != ticks.len() {
-        return false;
-    }
-    if MOST_LISTED < words.len() {
-        return false;
-    }
-    rise(ticks)
 }
 
 // The ticks that pass after the word at a place.

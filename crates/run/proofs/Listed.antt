@@ -16,7 +16,8 @@ use Rattle.head.specs.Busy.{isBusy, atRest}
 use Rattle.head.specs.Word.{answerOf}
 use Rattle.head.specs.Tick.{tickOf, ticksOf}
 use Rattle.head.specs.Numbers.{actNumber, causeNumber, outcomeNumber}
-use Rattle.head.specs.List.{gapAfter, stepped, headListed, outcomesListed, numbersListed, rising, mostListed, isList, listOf}
+use Rattle.timed.specs.List.{rising, mostWords, isList}
+use Rattle.head.specs.List.{gapAfter, stepped, headListed, outcomesListed, numbersListed, listOf}
 use Rattle.head.specs.declared.state.Head.{Head}
 use Rattle.head.specs.declared.word.Act.the-variants.{None, Exposure, Request, Cover}
 use Rattle.head.specs.declared.word.Cause.{Cause}
@@ -145,7 +146,7 @@ module _ (s : Head) (bs : List ℕ) (os : List Order) (ws ts : List ℕ) (n end 
   at-end : headAfter end 0 (paired ts ws) s ≡ ticksOf (end - clockAfter 0 ts) (headListed ws ts s)
   at-end = rw (sub-zero end, fit-still (untilFirst 0 ts)) at (list-head end ws ts 0 s even r)
 
-  long : length ws ≤ mostListed
+  long : length ws ≤ mostWords
   long = omega (arith, paired-long ts ws, d .counted, d .most)
 
   done : (room : ℕ) → length ws ≤ room → listOf s ws ts room ≡ record { head = headListed ws ts s; answer = Done }
@@ -154,7 +155,7 @@ module _ (s : Head) (bs : List ℕ) (os : List Order) (ws ts : List ℕ) (n end 
       rw (
         ranged,
         eq-eqb (length ws) (length ts) even,
-        le-leb (length ws) mostListed long,
+        le-leb (length ws) mostWords long,
         list-rises end ws ts 0 even r,
         le-leb (length ws) room fits,
       )

@@ -1,6 +1,6 @@
 -- `head::list::gap_after` meets its contract.
 -- Assumes nothing.
-use Rattle.head.proofs.Rising.{gap-next, gap-last, gap-rises}
+use Rattle.head.proofs.Gaps.{gap-next, gap-last, gap-rises}
 use borrow.Author.Needs.{needs}
 use Rattle.head.proofs.list.gap_after.Statement.{statement}
 use Rattle.head.proofs.list.gap_after.Tie as tie

@@ -1,20 +1,20 @@
--- Words and ticks that make a list: rising ticks, the ways through the code that judges them, and the gaps between them.
+-- Rising ticks, and the ways through the code that judges words and ticks.
 -- Assumes nothing.
 use mathlib.Core.Path.{_≡_, refl, sym, ap, _∙_}
 use mathlib.Core.Bool.{Bool, true, false, _&&_}
 use mathlib.Core.List.{List, [], _∷_}
-use Prim.Native.Nat.{ℕ, _+_, _-_, _≤_, _<_}
+use Prim.Native.Nat.{ℕ, _+_, _≤_, _<_}
 use native.Mathlib.Numerals.{add-one}
 use native.Mathlib.Omega.{arith}
-use borrow.Author.Tests.{lt-ltb, le-ltb, ltb-true, eq-eqb, ne-eqb, eqb-true, le-leb, lt-leb}
+use borrow.Author.Tests.{lt-ltb, le-ltb, eq-eqb, ne-eqb, eqb-true, le-leb, lt-leb}
 use lib.Dec.{eqb, leb, ltb}
-use lib.ListN.{length, getD, drop, drop-of-length-le, length-drop}
+use lib.ListN.{length, getD, drop, length-drop}
 use lib.Seq.{drop-cons}
 use Rattle.words.proofs.Tests.{and-left, and-right}
-use Rattle.head.specs.List.{gapAfter, rising, mostListed, isList}
+use Rattle.timed.specs.List.{rising, mostWords, isList}
 
 -- two ticks one after another
-risen : (ts : List ℕ) (i : ℕ) → i + 1 < length ts
+pub risen : (ts : List ℕ) (i : ℕ) → i + 1 < length ts
     → rising (drop i ts) ≡ (ltb (getD ts i 0) (getD ts (i + 1) 0) && rising (drop (i + 1) ts))
 unfolding rising
 risen ts i more =
@@ -47,13 +47,13 @@ module _ (ws ts : List ℕ) where
   list-unequal h = rw (ne-eqb (length ws) (length ts) h)
 
   module _ (even : length ws ≡ length ts) where
-    pub list-long : mostListed < length ws → false ≡ isList ws ts
+    pub list-long : mostWords < length ws → false ≡ isList ws ts
     unfolding isList
-    list-long h = rw (eq-eqb (length ws) (length ts) even, lt-leb (length ws) mostListed h)
+    list-long h = rw (eq-eqb (length ws) (length ts) even, lt-leb (length ws) mostWords h)
 
-    pub list-judged : length ws ≤ mostListed → (r : Bool) → r ≡ rising ts → r ≡ isList ws ts
+    pub list-judged : length ws ≤ mostWords → (r : Bool) → r ≡ rising ts → r ≡ isList ws ts
     unfolding isList
-    list-judged h r e = e ∙ rw (eq-eqb (length ws) (length ts) even, le-leb (length ws) mostListed h)
+    list-judged h r e = e ∙ rw (eq-eqb (length ws) (length ts) even, le-leb (length ws) mostWords h)
 
 -- what a list is
 module _ (ws ts : List ℕ) (h : isList ws ts ≡ true) where
@@ -61,26 +61,9 @@ module _ (ws ts : List ℕ) (h : isList ws ts ≡ true) where
   unfolding isList
   list-even =
       let even = eqb (length ws) (length ts) in
-      let few = leb (length ws) mostListed in
+      let few = leb (length ws) mostWords in
       eqb-true (length ws) (length ts) (and-left even few (and-left (even && few) (rising ts) h))
 
   pub list-rises : rising ts ≡ true
   unfolding isList
-  list-rises = and-right (eqb (length ws) (length ts) && leb (length ws) mostListed) (rising ts) h
-
--- the ways through `gap_after`
-module _ (ts : List ℕ) (at : ℕ) where
-  pub gap-next : at + 1 < length ts → getD ts (at + 1) 0 - getD ts at 0 ≡ gapAfter (getD ts at 0) (drop (at + 1) ts)
-  unfolding gapAfter
-  gap-next more = rw (drop-cons ts (at + 1) 0 more)
-
-  pub gap-last : length ts ≤ at + 1 → 1 ≡ gapAfter (getD ts at 0) (drop (at + 1) ts)
-  unfolding gapAfter
-  gap-last over = rw (drop-of-length-le ts {i = at + 1} over)
-
-  pub gap-rises : rising (drop at ts) ≡ true → at + 1 < length ts → getD ts at 0 ≤ getD ts (at + 1) 0
-  gap-rises h more =
-      let one = getD ts at 0 in
-      let two = getD ts (at + 1) 0 in
-      let less : one < two = ltb-true one two (and-left (ltb one two) (rising (drop (at + 1) ts)) (sym (risen ts at more) ∙ h)) in
-      omega arith
+  list-rises = and-right (eqb (length ws) (length ts) && leb (length ws) mostWords) (rising ts) h

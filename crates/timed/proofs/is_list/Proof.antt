@@ -1,9 +1,9 @@
--- `head::list::is_list` meets its contract.
+-- `timed::is_list` meets its contract.
 -- Assumes nothing.
-use Rattle.head.proofs.Rising.{list-unequal, list-long, list-judged}
+use Rattle.timed.proofs.Rising.{list-unequal, list-long, list-judged}
 use borrow.Author.Needs.{needs}
-use Rattle.head.proofs.list.is_list.Statement.{statement}
-use Rattle.head.proofs.list.is_list.Tie as tie
+use Rattle.timed.proofs.is_list.Statement.{statement}
+use Rattle.timed.proofs.is_list.Tie as tie
 
 returns : tie.Need-returns
 returns c = search (needs, list-unequal)

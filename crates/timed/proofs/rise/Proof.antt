@@ -1,13 +1,13 @@
--- `head::list::rise` meets its contract. The loop's invariant: the list rises if it does from i on.
+-- `timed::rise` meets its contract. The loop's invariant: the list rises if it does from i on.
 -- Assumes nothing.
 use mathlib.Core.Path.{_≡_}
 use Prim.Native.Nat.{_-_, _≤_}
 use lib.ListN.{length, drop}
-use Rattle.head.specs.List.{rising}
-use Rattle.head.proofs.Rising.{rise-more, rise-not, rise-all}
+use Rattle.timed.specs.List.{rising}
+use Rattle.timed.proofs.Rising.{rise-more, rise-not, rise-all}
 use borrow.Author.Needs.{needs}
-use Rattle.head.proofs.list.rise.Statement.{statement}
-use Rattle.head.proofs.list.rise.Tie as tie
+use Rattle.timed.proofs.rise.Statement.{statement}
+use Rattle.timed.proofs.rise.Tie as tie
 
 abbrev Inv-loop : tie.InvT-loop
 Inv-loop ticks i₀ i = (i ≤ length ticks) × (rising ticks ≡ rising (drop i ticks))
