@@ -1,5 +1,6 @@
--- Document 02, request P1: the list of document 01's example plan in one call at power-on; and the same list without its fourth mirror
--- word, which no outcome and no flag tells.
+-- Document 02, request P1, at power-on: the list of document 01's example plan in one call; the same list without its fourth mirror word,
+-- which no outcome and no flag tells; and a row for each rule of the request. `Head::list` promises these very numbers, so a program that
+-- gives others at one of these lists is refused.
 -- Assumes nothing.
 use Prim.Native.Nat.{ℕ}
 use mathlib.Core.List.{List, [], _∷_, _++_}
@@ -47,3 +48,14 @@ listTable =
     -- every word is taken: the exposure is made under the old pair
     ++ beside (numbersListed lostWords lostTicks powerOn) (0 ∷ 0 ∷ 0 ∷ 1 ∷ 2 ∷ [])
     ++ beside (seen (headListed lostWords lostTicks powerOn)) (0 ∷ 4095 ∷ 0 ∷ 0 ∷ 0 ∷ 0 ∷ 0 ∷ [])
+    -- an ignored word doesn't stop the rest: A000 is out of turn, and D801 after it is taken
+    ++ beside (numbersListed (0xA000 ∷ 0xD801 ∷ []) (0 ∷ 1 ∷ []) powerOn) (25 ∷ 0 ∷ [])
+    ++ ((headListed (0xA000 ∷ 0xD801 ∷ []) (0 ∷ 1 ∷ []) powerOn .settings .detector gives 1) ∷ [])
+    -- as many ticks as the words' ticks differ by: after START the head is busy for 158
+    ++ beside (numbersListed (0x8000 ∷ 0x0000 ∷ []) (0 ∷ 157 ∷ []) powerOn) (1 ∷ 22 ∷ [])
+    ++ beside (numbersListed (0x8000 ∷ 0x0000 ∷ []) (0 ∷ 158 ∷ []) powerOn) (1 ∷ 0 ∷ [])
+    -- the first word goes at once, whatever its tick, and the last word's own tick passes
+    ++ ((headListed (0x8000 ∷ []) (0 ∷ []) powerOn .work .busy gives 157) ∷ [])
+    ++ ((headListed (0x8000 ∷ []) (500 ∷ []) powerOn .work .busy gives 157) ∷ [])
+    -- a cover move gives its word
+    ++ beside (numbersListed (0x1201 ∷ []) (0 ∷ []) powerOn) (0x1201 ∷ [])
