@@ -31,6 +31,10 @@ module _ (ts : List ℕ) (i : ℕ) (left : rising ts ≡ rising (drop i ts)) whe
   pub rise-not : i + 1 < length ts → getD ts (i + 1) 0 ≤ getD ts i 0 → false ≡ rising ts
   rise-not more less = sym (left ∙ risen ts i more ∙ rw (le-ltb (getD ts i 0) (getD ts (i + 1) 0) less))
 
+  -- and so where it is less
+  pub rise-less : i + 1 < length ts → getD ts (i + 1) 0 < getD ts i 0 → false ≡ rising ts
+  rise-less more less = rise-not more (omega arith)
+
   pub rise-all : length ts ≤ i + 1 → true ≡ rising ts
   unfolding rising
   rise-all over = sym (left ∙ last (drop i ts) (simp length-drop (omega arith)))

@@ -4,7 +4,7 @@ use mathlib.Core.Path.{_≡_}
 use Prim.Native.Nat.{_-_, _≤_}
 use lib.ListN.{length, drop}
 use Rattle.timed.specs.List.{rising}
-use Rattle.timed.proofs.Rising.{rise-more, rise-not, rise-all}
+use Rattle.timed.proofs.Rising.{rise-more, rise-not, rise-less, rise-all}
 use borrow.Author.Needs.{needs}
 use Rattle.timed.proofs.rise.Statement.{statement}
 use Rattle.timed.proofs.rise.Tie as tie
@@ -37,7 +37,7 @@ shared-slice-read-if1-2 : tie.Need-shared-slice-read-if1-2 Inv-loop μ-loop
 shared-slice-read-if1-2 c = search needs
 
 returns : tie.Need-returns Inv-loop μ-loop
-returns c = search (needs, rise-not)
+returns c = search (needs, rise-not, rise-less)
 
 add-i : tie.Need-add-i Inv-loop μ-loop
 add-i c = search needs
