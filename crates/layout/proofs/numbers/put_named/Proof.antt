@@ -1,0 +1,21 @@
+-- `layout::numbers::put_named` meets its contract.
+-- Assumes nothing.
+use Rattle.layout.proofs.Writing.{written-then}
+use borrow.Author.Needs.{needs}
+use Rattle.layout.proofs.numbers.put_named.Statement.{statement}
+use Rattle.layout.proofs.numbers.put_named.Tie as tie
+
+put-bytes-requires : tie.Need-put-bytes-requires
+put-bytes-requires c κs = search needs
+
+put-decimal-requires : tie.Need-put-decimal-requires
+put-decimal-requires c κs = search needs
+
+same-length : tie.Need-same-length
+same-length c = search needs
+
+returns : tie.Need-returns
+returns c = search (needs, written-then)
+
+pub put-named-spec : {M : Type 1} → statement M
+put-named-spec = tie.close (tie.spec put-bytes-requires put-decimal-requires same-length returns)
