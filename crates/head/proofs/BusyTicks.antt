@@ -6,7 +6,7 @@ use mathlib.Core.Bool.{Bool, true, false, cond}
 use Prim.Native.Nat.{ℕ, _-_}
 use native.Mathlib.Nat.{zero-sub}
 use native.Mathlib.Omega.{arith}
-use borrow.Author.Tests.{le-ltb, leb-true, ltb-false, eqb-true, eq-eqb}
+use borrow.Author.Tests.{le-ltb, le-leb, leb-true, ltb-false, eqb-true, eq-eqb}
 use lib.Dec.{leb, eqb, leb·zero}
 use Rattle.words.specs.Codec.{decodeOf}
 use Rattle.words.specs.Kinds as kind
@@ -15,7 +15,7 @@ use Rattle.head.specs.Limits.{hkTicks, lengthOf}
 use Rattle.head.specs.State.{noTask, acquisition, housekeeping}
 use Rattle.head.specs.Flags.{shown}
 use Rattle.head.specs.Range.{inRange}
-use Rattle.head.specs.Busy.{busyTicks, isBusy, atRest}
+use Rattle.head.specs.Busy.{busyTicks, isBusy, atRest, restTicks}
 use Rattle.head.specs.Apply.{after, workAfter}
 use Rattle.head.specs.Word.{onDecoded, answerOf}
 use Rattle.head.specs.Tick.{taskOf, passed, tickOf, ticksOf}
@@ -115,3 +115,16 @@ module _ (s : Head) where
         let (m, c) = rest-none rest in
         let w = still-work n (s .work .task) (s .work .busy) (bounds s h .work) (idle-busy free) in
         rw (ticks-elapsed n s h, still-flags n (s .work .busy) (idle-busy free), w, m, c, zero-sub n)
+
+-- once that many ticks have passed the head is idle and nothing moves
+module _ (s : Head) (h : inRange s ≡ true) where
+  pub rested-idle : isBusy (ticksOf (restTicks s) s) ≡ false
+  unfolding restTicks busyTicks isBusy elapsed workLeft
+  rested-idle = rw (ticks-elapsed (restTicks s) s h, le-leb (s .work .busy) (restTicks s) (omega arith))
+
+  pub rested-still : atRest (ticksOf (restTicks s) s) ≡ true
+  unfolding restTicks busyTicks elapsed
+  rested-still =
+      let m : s .motion .mirror - restTicks s ≡ 0 = omega arith in
+      let c : s .motion .cover - restTicks s ≡ 0 = omega arith in
+      rw (ticks-elapsed (restTicks s) s h) (none-rest (elapsed (restTicks s) s) m c)

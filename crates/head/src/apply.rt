@@ -46,7 +46,7 @@ fn channel(delay: u16, expo: u16, readout: u16) -> u32
     Head::STEP_TICKS as u32 * (delay as u32 + expo as u32) + readout as u32
 }
 
-fn larger(a: u32, b: u32) -> u32
+pub(crate) fn larger(a: u32, b: u32) -> u32
     ensures { λ r. ⌜ r ≡ max a b ⌝ }
 {
     if a < b { b } else { a }
