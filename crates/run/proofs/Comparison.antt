@@ -22,7 +22,7 @@ use Rattle.run.specs.declared.compare.Compared.{Compared}
 use Rattle.run.proofs.Accepted.{translated-list, translated-end, translated-acts}
 use Rattle.run.proofs.Rehearsal.{Answers}
 
--- the translation's answer, and the number of acts, in a rehearsal's
+-- the translation's answer, the number of acts and the head, in a rehearsal's
 translation-back : (s : Head) (sch : Schedule) (t : Translated) → translationOf (rehearsedBy s sch t) ≡ t
 unfolding rehearsedBy
 translation-back s sch (Translated.Done n e) = refl
@@ -34,14 +34,21 @@ acts-back : (s : Head) (sch : Schedule) (h : Head) (n e a : ℕ) → Rehearsed.D
 unfolding rehearsedBy
 acts-back s sch h n e a is = cc
 
+head-back : (s : Head) (sch : Schedule) (h : Head) (n e a : ℕ) → Rehearsed.Done h n e a ≡ rehearsedBy s sch (Translated.Done n e)
+    → h ≡ headAfter e 0 (sch .list) s
+unfolding rehearsedBy
+head-back s sch h n e a is = cc
+
 -- the promises of `compare`, for an answer and the buffers as they came back
-abbrev Promised : Head → List ℕ → List ℕ → List ℕ → Compared → List ℕ → List ℕ → Type 0
-Promised s bs R A c R' A' =
+abbrev Promised : Head → List ℕ → List ℕ → List ℕ → List ℕ → List ℕ → Compared → List ℕ → List ℕ → List ℕ → List ℕ → Type 0
+Promised s bs W T R A c W' T' R' A' =
     let sch = scheduleOf s (planOf bs) in
     (c ≡ comparedOf s bs)
+    × ((W' ≡ filled (translateOf s bs mostWords mostWords) (wordList sch) W)
+    × ((T' ≡ filled (translateOf s bs mostWords mostWords) (tickList sch) T)
     × ((R' ≡ filled (translateOf s bs mostWords mostWords) (runRecord s sch) R)
     × ((A' ≡ filled (translateOf s bs mostWords mostWords) (runTimes s sch) A)
-    × ((comparedNumber c ≡ translationNumber s bs mostWords mostWords) × (comparedPlace c ≡ translationPlace s bs))))
+    × ((comparedNumber c ≡ translationNumber s bs mostWords mostWords) × (comparedPlace c ≡ translationPlace s bs))))))
 
 module _ (s : Head) (bs W T R A : List ℕ) (longW : length W ≡ mostWords) (longT : length T ≡ mostWords)
     {W' T' R' A' : List ℕ} {r : Rehearsed} (ran : Answers s bs W T R A r W' T' R' A') where
@@ -54,6 +61,12 @@ module _ (s : Head) (bs W T R A : List ℕ) (longW : length W ≡ mostWords) (lo
 
   answer : translationOf r ≡ translateOf s bs mostWords mostWords
   answer = ap translationOf told ∙ translation-back s sch (translateOf s bs mostWords mostWords)
+
+  words-are : W' ≡ filled (translateOf s bs mostWords mostWords) (wordList sch) W
+  words-are = rw answer at (ran .1 .0)
+
+  ticks-are : T' ≡ filled (translateOf s bs mostWords mostWords) (tickList sch) T
+  ticks-are = rw answer at (ran .1 .1 .0)
 
   rows-are : R' ≡ filled (translateOf s bs mostWords mostWords) (runRecord s sch) R
   rows-are = rw answer at (ran .1 .1 .1 .0)
@@ -69,9 +82,9 @@ module _ (s : Head) (bs W T R A : List ℕ) (longW : length W ≡ mostWords) (lo
 
   -- not done: the answer has the number and the place of the translation's
   pub way-refused : ((h : Head) (n e a : ℕ) → r ≡ Rehearsed.Done h n e a → ⊥) → {n p : ℕ} → n ≡ rehearsedNumber r → p ≡ rehearsedPlace r
-      → Promised s bs R A (Compared.Refused n p) R' A'
+      → Promised s bs W T R A (Compared.Refused n p) W' T' R' A'
   unfolding comparedBy comparedOf
-  way-refused other {n} {p} is at = (same-answer r refl, (rows-are, (times-are, (is ∙ number-is, at ∙ place-is))))
+  way-refused other {n} {p} is at = (same-answer r refl, (words-are, (ticks-are, (rows-are, (times-are, (is ∙ number-is, at ∙ place-is))))))
     where
       same-answer : (r' : Rehearsed) → r ≡ r' → Compared.Refused n p ≡ comparedOf s bs
       same-answer (Rehearsed.Done h m e a) k = absurd (other h m e a k)
@@ -86,16 +99,19 @@ module _ (s : Head) (bs W T R A : List ℕ) (longW : length W ≡ mostWords) (lo
     translated = rw (longW, longT) (sym done)
 
     words : W' ≡ filled (Translated.Done n e) (wordList sch) W
-    words = rw (answer ∙ done) at (ran .1 .0)
+    words = rw done at words-are
 
     ticks : T' ≡ filled (Translated.Done n e) (tickList sch) T
-    ticks = rw (answer ∙ done) at (ran .1 .1 .0)
+    ticks = rw done at ticks-are
 
     acts : a ≡ length (logOf (momentsOf e 0 (sch .list) s))
     acts = acts-back s sch h n e a (sym is ∙ told ∙ ap (rehearsedBy s sch) done)
 
     ends : e ≡ sch .end
     ends = translated-end s bs W T W' T' n e translated words ticks
+
+    last : h ≡ headAfter (sch .end) 0 (sch .list) s
+    last = head-back s sch h n e a (sym is ∙ told ∙ ap (rehearsedBy s sch) done) ∙ ap (λ (n : ℕ). headAfter n 0 (sch .list) s) ends
 
     pub way-acts : a ≤ 64
     way-acts =
@@ -115,8 +131,8 @@ module _ (s : Head) (bs W T R A : List ℕ) (longW : length W ≡ mostWords) (lo
         ∙ take-at values (drop (length values) R) (21 * a + 21) (long ∙ ap (λ (n : ℕ). 21 * n + 21) (sym acts-are))
 
     pub way-done : {b : Bool} → b ≡ same (take (21 * a + 21) R') (readRecord (s .settings) (planOf bs))
-        → Promised s bs R A (Compared.Done a e b) R' A'
+        → Promised s bs W T R A (Compared.Done h n e a b) W' T' R' A'
     unfolding comparedBy comparedOf
     way-done compared =
         let equal = compared ∙ ap (λ (l : List ℕ). same l (readRecord (s .settings) (planOf bs))) front in
-        (rw (done, acts-are, equal), (rows-are, (times-are, (rw is at number-is, rw is at place-is))))
+        (rw (done, last, acts-are, equal), (words-are, (ticks-are, (rows-are, (times-are, (rw is at number-is, rw is at place-is))))))

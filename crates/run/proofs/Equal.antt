@@ -42,7 +42,11 @@ module _ (s : Head) (bs : List ℕ) (os : List Order) (h : fit s ≡ true) (e : 
   record-is = rw (e, log-is, run-whole s os h (accepted-fit bs os e) .settings)
 
   pub compared-equal : comparedOf s bs
-      ≡ Compared.Done (length (logRead (s .settings) os)) (scheduleFrom s 0 (itemsOfAll os) .end) true
+      ≡ Compared.Done (headAfter (scheduleFrom s 0 (itemsOfAll os) .end) 0 (scheduleFrom s 0 (itemsOfAll os) .list) s)
+      (length (scheduleFrom s 0 (itemsOfAll os) .list))
+      (scheduleFrom s 0 (itemsOfAll os) .end)
+      (length (logRead (s .settings) os))
+      true
   unfolding comparedOf comparedBy
   compared-equal =
       rw (accepted-done s bs os h e mostWords mostWords (omega arith) (omega arith), accepted-schedule s bs os h e, record-is, log-is, same-self (readRecord (s .settings) (planOf bs)))

@@ -11,7 +11,7 @@ use Rattle.plan.specs.Stored.{Plan, planOf}
 use Rattle.schedule.specs.Schedule.{Schedule}
 use Rattle.schedule.specs.Translate.{mostWords, scheduleOf, translateOf, translatedNumber, translatedPlace}
 use Rattle.schedule.specs.declared.Translated.{Translated}
-use Rattle.run.specs.Run.{logOf}
+use Rattle.run.specs.Run.{headAfter, logOf}
 use Rattle.run.specs.Rehearse.{runOf, runRecord}
 use Rattle.run.specs.declared.compare.Compared.{Compared}
 
@@ -22,11 +22,12 @@ same [] (y ∷ ys) = false
 same (x ∷ xs) [] = false
 same (x ∷ xs) (y ∷ ys) = eqb x y && same xs ys
 
--- The number of acts the head made, the end, and whether the head's record is that of the plan read without words. A refusal is the
--- translation's.
+-- The head at the end, the number of words, the end, the number of acts, and whether the head's record is that of the plan read without
+-- words. A refusal is the translation's.
 unfoldable pub comparedBy : Head → Plan → Schedule → Translated → Compared
 comparedBy s p sch (Translated.Done n e) =
-    Compared.Done (length (logOf (runOf s sch))) e (same (runRecord s sch) (readRecord (s .settings) p))
+    Compared.Done (headAfter (sch .end) 0 (sch .list) s) n e (length (logOf (runOf s sch)))
+    (same (runRecord s sch) (readRecord (s .settings) p))
 comparedBy s p sch (Translated.Refused n q) = Compared.Refused n q
 comparedBy s p sch (Translated.Short n) = Compared.Refused (translatedNumber (Translated.Short n)) (translatedPlace (Translated.Short n))
 
@@ -36,9 +37,9 @@ comparedOf s bs = comparedBy s (planOf bs) (scheduleOf s (planOf bs)) (translate
 
 -- The refusal's number of document 01, 0 for none, and its byte place.
 abbrev pub comparedNumber : Compared → ℕ
-comparedNumber (Compared.Done a e b) = 0
+comparedNumber (Compared.Done h n e a b) = 0
 comparedNumber (Compared.Refused n p) = n
 
 abbrev pub comparedPlace : Compared → ℕ
-comparedPlace (Compared.Done a e b) = 0
+comparedPlace (Compared.Done h n e a b) = 0
 comparedPlace (Compared.Refused n p) = p

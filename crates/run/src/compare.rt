@@ -12,16 +12,26 @@ ghost use Prim.Native.Nat.{_+_, _*_, _≤_};
 ghost use lib.ListN.{length, take};
 ghost use Rattle.plan.specs.Read.{readRecord};
 ghost use Rattle.plan.specs.Stored.{planOf};
-ghost use Rattle.schedule.specs.Translate.{mostWords, scheduleOf, translateOf, filled, translationNumber, translationPlace};
+ghost use Rattle.schedule.specs.Translate.{mostWords, scheduleOf, translateOf, filled, wordList, tickList, translationNumber, translationPlace};
 ghost use Rattle.run.specs.Rehearse.{runRecord, runTimes};
 ghost use Rattle.run.specs.Compare.{same, comparedOf, comparedNumber, comparedPlace};
 
 // What comparing answers.
 pub enum Compared {
-    // The number of acts, the tick at which the plan ends, and whether the two records are equal.
-    Done { acts: usize, end: u32, equal: bool },
+    // The head at the end, the number of words, the tick at which the plan ends, the number of acts, and whether the two records are
+    // equal.
+    Done {
+        head: Head,
+        count: usize,
+        end: u32,
+        acts: usize,
+        equal: bool,
+    },
     // The number of document 01's refusal table, and the byte place.
-    Refused { number: u8, place: usize },
+    Refused {
+        number: u8,
+        place: usize,
+    },
 }
 
 impl Compared {
@@ -31,8 +41,10 @@ impl Compared {
     {
         match self {
             Compared::Done {
-                acts: _,
+                head: _,
+                count: _,
                 end: _,
+                acts: _,
                 equal: _,
             } => 0,
             Compared::Refused { number, place: _ } => number,
@@ -45,8 +57,10 @@ impl Compared {
     {
         match self {
             Compared::Done {
-                acts: _,
+                head: _,
+                count: _,
                 end: _,
+                acts: _,
                 equal: _,
             } => 0,
             Compared::Refused { number: _, place } => place,
@@ -92,26 +106,34 @@ fn agrees(settings: Settings, plan: &[u8], rows: &[u16], acts: usize) -> bool
 
 // Rehearses a plan, reads it without words, and compares what the head did with what the reading says. A refusal is the
 // translation's and writes nothing.
-pub fn compare(head: Head, plan: &[u8], rows: &mut [u16; 1365], times: &mut [u32; 64]) -> Compared
+pub fn compare(
+    head: Head,
+    plan: &[u8],
+    words: &mut [u16; MOST_WORDS],
+    ticks: &mut [u32; MOST_WORDS],
+    rows: &mut [u16; 1365],
+    times: &mut [u32; 64],
+) -> Compared
     ensures { λ r. ⌜ r ≡ comparedOf head (now (plan .entry)) ⌝ }
+    ensures { λ r. ⌜ now (words .exit) ≡ filled (translateOf head (now (plan .entry)) mostWords mostWords) (wordList (scheduleOf head (planOf (now (plan .entry))))) (now (words .entry)) ⌝ }
+    ensures { λ r. ⌜ now (ticks .exit) ≡ filled (translateOf head (now (plan .entry)) mostWords mostWords) (tickList (scheduleOf head (planOf (now (plan .entry))))) (now (ticks .entry)) ⌝ }
     ensures { λ r. ⌜ now (rows .exit) ≡ filled (translateOf head (now (plan .entry)) mostWords mostWords) (runRecord head (scheduleOf head (planOf (now (plan .entry))))) (now (rows .entry)) ⌝ }
     ensures { λ r. ⌜ now (times .exit) ≡ filled (translateOf head (now (plan .entry)) mostWords mostWords) (runTimes head (scheduleOf head (planOf (now (plan .entry))))) (now (times .entry)) ⌝ }
     ensures { λ r. ⌜ comparedNumber r ≡ translationNumber head (now (plan .entry)) mostWords mostWords ⌝ }
     ensures { λ r. ⌜ comparedPlace r ≡ translationPlace head (now (plan .entry)) ⌝ }
 {
-    // Room for the words of every plan.
-    let mut words = [0u16; MOST_WORDS];
-    let mut ticks = [0u32; MOST_WORDS];
-    let rehearsed = rehearse(head, plan, &mut words, &mut ticks, rows, times);
+    let rehearsed = rehearse(head, plan, words, ticks, rows, times);
     match rehearsed {
         Rehearsed::Done {
-            head: _,
-            count: _,
+            head: last,
+            count,
             end,
             acts,
         } => Compared::Done {
-            acts,
+            head: last,
+            count,
             end,
+            acts,
             equal: agrees(head.settings, plan, rows, acts),
         },
         _ => Compared::Refused {

@@ -1,25 +1,11 @@
 -- `run::compare::compare` meets its contract: each way through the code is a law of `Comparison`.
 -- Assumes nothing.
-use mathlib.Core.Path.{_≡_}
 use mathlib.Core.Logic.{inl, inr}
-use Prim.Native.Nat.{ℕ}
 use native.Mathlib.Omega.{arith}
-use lib.ListN.{length, replicate, length-replicate}
-use Rattle.schedule.specs.Translate.{mostWords}
 use Rattle.run.proofs.Comparison.{way-acts, way-done, way-refused}
 use borrow.Author.Needs.{needs}
 use Rattle.run.proofs.compare.compare.Statement.{statement}
 use Rattle.run.proofs.compare.compare.Tie as tie
-
--- the buffers for words and ticks
-zeros : length (replicate {A = ℕ} mostWords 0) ≡ mostWords
-zeros = length-replicate {A = ℕ} mostWords 0
-
-slice-aggregate-rehearse : tie.Need-slice-aggregate-rehearse
-slice-aggregate-rehearse c = search needs
-
-slice-aggregate-rehearse-2 : tie.Need-slice-aggregate-rehearse-2
-slice-aggregate-rehearse-2 c = search needs
 
 rehearse-requires : tie.Need-rehearse-requires
 rehearse-requires c κs = search needs
@@ -29,7 +15,7 @@ enum-known-rehearsed c = search needs
 
 agrees-requires : tie.Need-agrees-requires
 agrees-requires c κs =
-    let few = way-acts _ _ _ _ _ _ zeros zeros (c .before .before .before .before .before .before .before .rehearse .ensures) (c .before .before .before .rehearsed .given .1) in
+    let few = way-acts _ _ _ _ _ _ (search needs) (search needs) (c .before .before .before .before .before .rehearse .ensures) (c .before .before .before .rehearsed .given .1) in
     (few, omega (arith, c .agrees-arg2 .given .0))
 
 number-requires : tie.Need-number-requires
@@ -40,12 +26,12 @@ place-requires c κs = search needs
 
 returns : tie.Need-returns
 returns c =
-    way-done _ _ _ _ _ _ zeros zeros (c .before .before .before .before .before .before .before .before .rehearse .ensures) (c .before .before .before .before .rehearsed .given .1) (c .agrees .ensures)
+    way-done _ _ _ _ _ _ (search needs) (search needs) (c .before .before .before .before .before .before .rehearse .ensures) (c .before .before .before .before .rehearsed .given .1) (c .agrees .ensures)
 
 returns-2 : tie.Need-returns-2
 returns-2 c =
     let other = c .before .before .match .keys2 in
-    way-refused _ _ _ _ _ _ zeros zeros (c .before .before .before .before .before .rehearse .ensures)
+    way-refused _ _ _ _ _ _ (search needs) (search needs) (c .before .before .before .rehearse .ensures)
     (λ h n e a is. elim (rw is at other) [ inl x ↦ omega arith | inr x ↦ omega arith ])
     (c .before .number .ensures)
     (c .place .ensures)
@@ -54,8 +40,6 @@ pub compare-spec : {M : Type 1} → statement M
 compare-spec =
     tie.close
     (tie.spec
-    slice-aggregate-rehearse
-    slice-aggregate-rehearse-2
     rehearse-requires
     enum-known-rehearsed
     agrees-requires
