@@ -44,6 +44,14 @@ written-then {l} {at} {a} {p} {m} {b} {q} {n} first next =
         let past : length (sets l at a) ≤ at + length a = omega (arith, length-sets l at a) in
         sym (sets-past b m p e) ∙ first .bytes ∙ sets-past b (sets l at a) (at + length a) past
 
+pub written-three : {l : List ℕ} {at : ℕ} {a : List ℕ} {p : ℕ} {m b : List ℕ} {q : ℕ} {n c : List ℕ} {r : ℕ} {o : List ℕ} → Written l at a p m
+    → Written m p b q n → Written n q c r o → Written l at (a ++ b ++ c) r o
+written-three x y z = written-then (written-then x y) z
+
+pub written-four : {l : List ℕ} {at : ℕ} {a : List ℕ} {p : ℕ} {m b : List ℕ} {q : ℕ} {n c : List ℕ} {r : ℕ} {o d : List ℕ} {s : ℕ} {k : List ℕ}
+    → Written l at a p m → Written m p b q n → Written n q c r o → Written o r d s k → Written l at (a ++ b ++ c ++ d) s k
+written-four x y z w = written-then (written-three x y z) w
+
 -- nothing
 pub written-none : {l : List ℕ} {at place : ℕ} → place ≡ min at (length l) → Written l at [] place l
 written-none h = record { place = omega arith; bytes = refl }

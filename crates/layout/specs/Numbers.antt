@@ -3,9 +3,13 @@
 use Prim.Native.Nat.{ℕ, zero, suc, _+_, _-_, _/_, _%_}
 use Prim.Native.Char.{code}
 use Prim.Native.String.{String, [] as []ˢ, _∷_ as _∷ˢ_}
-use mathlib.Core.Bool.{cond}
+use mathlib.Core.Bool.{Bool, cond}
 use mathlib.Core.List.{List, [], _∷_, _++_}
 use lib.Dec.{ltb}
+
+-- 1 for true, 0 for false.
+abbrev pub bit : Bool → ℕ
+bit b = cond b 1 0
 
 -- The codes of a text's characters; a text here is ASCII, so that each is a byte.
 unfoldable pub ascii : String → List ℕ

@@ -6,7 +6,14 @@ ghost use mathlib.Core.List.{_++_};
 ghost use Prim.Native.Nat.{_<_};
 ghost use lib.ListN.{length};
 ghost use Rattle.layout.specs.Written.{Written};
-ghost use Rattle.layout.specs.Numbers.{decimalOf, hexDigit, hexOf, secondsOf, sineText};
+ghost use Rattle.layout.specs.Numbers.{bit, decimalOf, hexDigit, hexOf, secondsOf, sineText};
+
+// 1 for true, 0 for false.
+pub fn bit(b: bool) -> u64
+    ensures { λ r. ⌜ r ≡ bit b ⌝ }
+{
+    if b { 1 } else { 0 }
+}
 
 pub fn put_decimal(out: &mut [u8], at: usize, n: u64) -> usize
     ensures { λ r. ⌜ Written (now (out .entry)) at (decimalOf n) r (now (out .exit)) ⌝ }
