@@ -7,7 +7,7 @@ use schedule::translate::translate;
 use text::lines::refusal_line;
 
 fn print_refusal(answer: Translated) {
-    let mut line = [0u8; 53];
+    let mut line = [0u8; 64];
     let n = refusal_line(answer.number(), answer.place(), &mut line);
     io::write_all(STDOUT_FILENO, &line[..n]);
 }

@@ -1,6 +1,5 @@
-pub mod Digits
-pub mod Laying
-pub mod Putting
 pub mod Printing
+pub mod Fitting
 pub mod Ways
+pub mod Printed
 pub mod Example

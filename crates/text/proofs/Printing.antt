@@ -1,61 +1,67 @@
--- Lines laid one after another, and the lines of ticks and words.
+-- Lines written part by part, and the lines of ticks and words one after another.
 -- Assumes nothing.
-use mathlib.Core.Path.{_≡_, refl, sym, ap, _∙_}
-use mathlib.Core.List.{List, [], _∷_, _++_, append-nil, append-assoc}
-use Prim.Native.Nat.{ℕ, zero, suc, _+_, _*_, _≤_, _<_}
-use native.Mathlib.Nat.{mul-suc}
+use mathlib.Core.Path.{_≡_}
+use mathlib.Core.List.{List, [], _++_}
+use Prim.Native.Nat.{ℕ, _+_, _≤_, _<_, min}
 use native.Mathlib.Numerals.{add-one}
 use native.Mathlib.Omega.{arith}
-use lib.ListN.{length, getD, take}
-use Rattle.text.specs.Laid.{Laid}
-use Rattle.text.specs.Lines.{wordLine, wordLines}
-use Rattle.text.proofs.Laying.{laid-none, laid-then, laid-long}
+use lib.ListN.{length, getD, take, drop, length-take, drop-of-length-le}
+use lib.Seq.{drop-cons, getD-take, length-take-le}
+use Rattle.layout.specs.Numbers.{ascii, decimalOf, hexOf}
+use Rattle.layout.specs.Written.{Written}
+use Rattle.layout.proofs.Writing.{written-then, Partly, partly-first, partly-next, partly-done}
+use Rattle.text.specs.Lines.{wordLine, wordLines, named, endLine, refusalLine}
 
--- i of so many lines have been laid from a place on, each of at most so many bytes; `text i` is the text of the first i
-pub record Printing (old : List ℕ) (start most : ℕ) (text : ℕ → List ℕ) (count : ℕ) (new : List ℕ) (at i : ℕ) : Type 0 where
-  pub within : i ≤ count
-  pub small : at ≤ start + most * i
-  pub long : length new ≡ length old
-  pub laid : Laid old start (text i) at new
+module _ {l : List ℕ} {at p : ℕ} {m : List ℕ} {q : ℕ} {n : List ℕ} where
+  pub end-line : (end : ℕ) → Written l at (named "end " end) p m → Written m p (ascii "\n") q n → Written l at (endLine end) q n
+  unfolding endLine
+  end-line end = written-then
 
-module _ {old : List ℕ} {start most : ℕ} {text : ℕ → List ℕ} {count : ℕ} where
-  pub printing-first : text 0 ≡ [] → Printing old start most text count old start 0
-  printing-first none = record { within = omega arith; small = omega arith; long = refl; laid = rw none (laid-none old start) }
+  module _ {r : ℕ} {k : List ℕ} where
+    pub refusal-line : (number place : ℕ) → Written l at (named "refused " number) p m → Written m p (named " at " place) q n
+        → Written n q (ascii "\n") r k → Written l at (refusalLine number place) r k
+    unfolding refusalLine
+    refusal-line number place a b c = written-then (written-then a b) c
 
-  pub printing-next : {new : List ℕ} {at i : ℕ} → Printing old start most text count new at i → i < count
-      → {line : List ℕ} → text (suc i) ≡ text i ++ line
-      → {new' : List ℕ} {at' : ℕ} → Laid new at line at' new' → at' ≤ at + most
-      → Printing old start most text count new' at' (i + 1)
-  printing-next {i = i} h more step line short =
-      let all = laid-then (h .laid) line in
-      let small = h .small in
-      record {
-        within = omega arith;
-        small = rw (add-one i) (omega (arith, mul-suc most i));
-        long = laid-long all;
-        laid = rw (add-one i, step) all;
-      }
+    pub word-line : (tick word : ℕ) → Written l at (decimalOf tick) p m → Written m p (ascii " ") q n
+        → {hex : List ℕ} → hex ≡ hexOf word → Written n q hex r k
+        → {s : ℕ} {j : List ℕ} → Written k r (ascii "\n") s j → Written l at (wordLine tick word) s j
+    unfolding wordLine
+    word-line tick word a b is c d = written-then (written-then (written-then a b) (rw is at c)) d
 
-  pub printed : {new : List ℕ} {at i : ℕ} → Printing old start most text count new at i → count ≤ i → Laid old start (text count) at new
-  printed {i = i} h all =
-      let within = h .within in
-      let e : i ≡ count = omega arith in
-      rw e at (h .laid)
+-- the lines of the first so many ticks and words, from the ith on
+abbrev linesFrom : List ℕ → List ℕ → ℕ → ℕ → List ℕ
+linesFrom ts ws count i = wordLines (drop i (take count ts)) (drop i (take count ws))
 
--- the text of the first lines of ticks and words, and one line more
-abbrev pub firstWords : List ℕ → List ℕ → ℕ → List ℕ
-firstWords ts ws i = wordLines (take i ts) (take i ws)
+module _ (ts ws : List ℕ) (count i : ℕ) where
+  lines-next : count ≤ length ts → count ≤ length ws → i < count
+      → linesFrom ts ws count i ≡ wordLine (getD ts i 0) (getD ws i 0) ++ linesFrom ts ws count (i + 1)
+  unfolding wordLines
+  lines-next t w more =
+      let more-ticks : i < length (take count ts) = omega (arith, length-take-le count ts t) in
+      let more-words : i < length (take count ws) = omega (arith, length-take-le count ws w) in
+      rw (add-one i, drop-cons (take count ts) i 0 more-ticks, drop-cons (take count ws) i 0 more-words, getD-take count ts i 0 more, getD-take count ws i 0 more)
 
-pub no-words : (ts ws : List ℕ) → firstWords ts ws 0 ≡ []
-unfolding wordLines
-no-words ts ws = refl
+  lines-none : count ≤ i → linesFrom ts ws count i ≡ []
+  unfolding wordLines
+  lines-none all =
+      let none : length (take count ts) ≤ i = omega (arith, length-take count ts) in
+      rw (drop-of-length-le (take count ts) none)
 
-pub words-more : (ts ws : List ℕ) (i : ℕ) → i < length ts → i < length ws
-    → firstWords ts ws (suc i) ≡ firstWords ts ws i ++ wordLine (getD ts i 0) (getD ws i 0)
-unfolding wordLines
-words-more [] ws i h k = absurd (omega arith)
-words-more (t ∷ ts) [] i h k = absurd (omega arith)
-words-more (t ∷ ts) (w ∷ ws) zero h k = append-nil (wordLine t w)
-words-more (t ∷ ts) (w ∷ ws) (suc i) h k =
-    ap (λ (l : List ℕ). wordLine t w ++ l) (words-more ts ws i (omega arith) (omega arith))
-    ∙ sym (append-assoc (wordLine t w) (firstWords ts ws i) (wordLine (getD ts i 0) (getD ws i 0)))
+-- the lines from the ith on are left
+pub record Printing (old : List ℕ) (at : ℕ) (ts ws : List ℕ) (count : ℕ) (new : List ℕ) (place i : ℕ) : Type 0 where
+  pub few : i ≤ count
+  pub part : Partly old at (wordLines (take count ts) (take count ws)) (linesFrom ts ws count i) new place
+
+module _ {old : List ℕ} {at : ℕ} {ts ws : List ℕ} {count place : ℕ} where
+  pub printing-first : place ≡ min at (length old) → Printing old at ts ws count old place 0
+  printing-first h = record { few = omega arith; part = partly-first h }
+
+  module _ {new : List ℕ} {i : ℕ} (h : Printing old at ts ws count new place i) where
+    pub printing-next : count ≤ length ts → count ≤ length ws → i < count
+        → {new' : List ℕ} {place' : ℕ} → Written new place (wordLine (getD ts i 0) (getD ws i 0)) place' new'
+        → Printing old at ts ws count new' place' (i + 1)
+    printing-next t w more line = record { few = omega arith; part = partly-next (h .part) (lines-next ts ws count i t w more) line }
+
+    pub printed : count ≤ i → Written old at (wordLines (take count ts) (take count ws)) place new
+    printed all = partly-done (h .part) (lines-none ts ws count i all)

@@ -1,86 +1,145 @@
--- The ways through `listing`: what is printed in each, by the answer of translation.
+-- The ways through `put_listing` and `list_plan`, by the answer of translation.
 -- Assumes nothing.
-use mathlib.Core.Path.{_≡_, refl, sym, _∙_}
-use mathlib.Core.Bool.{Bool, true, false, _&&_}
+use mathlib.Core.Path.{_≡_, refl, sym, ap, _∙_}
+use mathlib.Core.Bool.{Bool, true, false}
 use mathlib.Core.List.{List}
-use Prim.Native.Nat.{ℕ, _≤_, _<_}
+use Prim.Native.Nat.{ℕ, _≤_}
 use native.Mathlib.Omega.{arith}
-use borrow.Author.Tests.{lt-ltb, le-ltb, leb-true}
-use lib.Dec.{leb}
 use lib.ListN.{length, take, drop, length-map}
 use lib.Seq.{take-at}
-use Rattle.words.proofs.Tests.{and-left}
-use Rattle.head.specs.State.{powerOn}
 use Rattle.head.specs.declared.state.Head.{Head}
+use Rattle.orders.specs.Words.{itemsOfAll}
 use Rattle.plan.specs.Stored.{Plan, orders, refused, planOf}
-use Rattle.schedule.specs.Schedule.{Timed, Schedule}
-use Rattle.schedule.specs.Translate.{mostWords, fit, scheduleOf, answerOfPlan, translateOf, filled, tickList, wordList, translatedNumber, translatedPlace}
+use Rattle.plan.proofs.Accepted.{accepted-fit, accepted-few}
+use Rattle.schedule.specs.Schedule.{Timed, scheduleFrom}
+use Rattle.schedule.specs.Translate.{mostWords, fit, scheduleOf, answerOfPlan, translateOf, filled, tickList, wordList, translatedNumber, translatedPlace, translationNumber, translationPlace}
 use Rattle.schedule.specs.declared.Translated.{Translated}
-use Rattle.schedule.specs.declared.Translated.the-variants.{Done, Refused, Short}
-use Rattle.text.specs.Lines.{refusalLine, tooLongLine}
-use Rattle.text.specs.Listing.{listingOf, answerText, printedFor}
+use Rattle.schedule.proofs.Accepted.{accepted-schedule, accepted-done}
+use Rattle.schedule.proofs.Numbered.{translation-number, translation-place}
+use Rattle.schedule.proofs.Plans.{plan-count}
+use Rattle.layout.specs.Written.{Written, Front}
+use Rattle.layout.proofs.Writing.{written-then, written-is, written-front}
+use Rattle.text.specs.Lines.{headLine, wordLines, endLine}
+use Rattle.text.specs.Listing.{listingOf, planText, listingNumber, listingPlace, listedBy, listedOf, listedAfter}
+use Rattle.text.specs.declared.listing.Listed.{Listed}
+use Rattle.text.proofs.Fitting.{listing-fits}
 
--- a list done has as many words as the schedule, and they fit
-done-count : (sch : Schedule) (plan : Plan) (a b n e : ℕ) → answerOfPlan plan sch a b ≡ Done n e → (n ≡ length (sch .list)) × (n ≤ a)
-unfolding answerOfPlan
-done-count sch (refused m p) a b n e is = let z : _≡_ {A = ℕ} 0 1 = cc in absurd (omega arith)
-done-count sch (orders os) a b n e is = go (leb (length (sch .list)) a && leb (length (sch .list)) b) refl
+-- the first line, those of the words, and the end
+pub listing-written : {l : List ℕ} {p : ℕ} {m : List ℕ} → Written l 0 headLine p m
+    → (ts ws : List ℕ) {q : ℕ} {n : List ℕ} → Written m p (wordLines ts ws) q n
+    → (end : ℕ) {r : ℕ} {k : List ℕ} → Written n q (endLine end) r k
+    → Written l 0 (listingOf ts ws end) r k
+unfolding listingOf
+listing-written first ts ws lines end last = written-then (written-then first lines) last
+
+-- the promises of `list_plan`: the number and the place are those of the answer
+abbrev pub Promised : Head → List ℕ → Listed → List ℕ → List ℕ → Type 0
+Promised s bs r old new =
+    (r ≡ listedOf s bs)
+    × ((new ≡ listedAfter s bs old)
+    × ((listingNumber r ≡ translationNumber s bs mostWords mostWords) × (listingPlace r ≡ translationPlace s bs)))
+
+listed-number : (t : Translated) (n : ℕ) → listingNumber (listedBy t n) ≡ translatedNumber t
+unfolding listedBy
+listed-number (Translated.Done c e) n = refl
+listed-number (Translated.Refused m p) n = refl
+listed-number (Translated.Short c) n = refl
+
+listed-place : (t : Translated) (n : ℕ) → listingPlace (listedBy t n) ≡ translatedPlace t
+unfolding listedBy
+listed-place (Translated.Done c e) n = refl
+listed-place (Translated.Refused m p) n = refl
+listed-place (Translated.Short c) n = refl
+
+pub promised : (s : Head) (bs : List ℕ) {r : Listed} (old : List ℕ) {new : List ℕ} → r ≡ listedOf s bs → new ≡ listedAfter s bs old → Promised s bs r old new
+unfolding listedOf
+promised s bs old is after = (
+  is,
+  (
+    after,
+    (
+      ap listingNumber is ∙ listed-number (translateOf s bs mostWords mostWords) (length (planText s bs)) ∙ translation-number s bs mostWords mostWords,
+      ap listingPlace is ∙ listed-place (translateOf s bs mostWords mostWords) (length (planText s bs)) ∙ translation-place s bs mostWords mostWords,
+    ),
+  ),
+)
+
+pub differ : {A : Type 0} → _≡_ {A = ℕ} 0 1 → A
+differ z = absurd (omega arith)
+
+-- what is known of a translation that is done
+record Made (s : Head) (bs : List ℕ) (n e : ℕ) : Type 0 where
+  fits : fit s ≡ true
+  count : n ≡ length (scheduleOf s (planOf bs) .list)
+  few : n ≤ mostWords
+  end : e ≡ scheduleOf s (planOf bs) .end
+
+made : (s : Head) (bs : List ℕ) {n e : ℕ} → Translated.Done n e ≡ translateOf s bs mostWords mostWords → Made s bs n e
+unfolding translateOf answerOfPlan
+made s bs {n} {e} is = go (fit s) refl (planOf bs) refl
   where
-    go : (z : Bool) → (leb (length (sch .list)) a && leb (length (sch .list)) b) ≡ z → (n ≡ length (sch .list)) × (n ≤ a)
-    go false p = let z : _≡_ {A = ℕ} 0 1 = cc (rw p at is) in absurd (omega arith)
-    go true p =
-        let same : length (sch .list) ≡ n = cc (rw p at is) in
-        let fits = leb-true (length (sch .list)) a (and-left (leb (length (sch .list)) a) (leb (length (sch .list)) b) p) in
-        (sym same, omega arith)
+    go : (f : Bool) → fit s ≡ f → (p : Plan) → planOf bs ≡ p → Made s bs n e
+    go false h p k = differ (cc (rw h at is))
+    go true h (refused m q) k = differ (cc (rw (h, k) at is))
+    go true h (orders os) k =
+        let same = is ∙ accepted-done s bs os h k mostWords mostWords (omega arith) (omega arith) in
+        let count : n ≡ length (scheduleFrom s 0 (itemsOfAll os) .list) = cc same in
+        record {
+          fits = h;
+          count = rw (accepted-schedule s bs os h k) count;
+          few = omega (arith, plan-count s h os (accepted-fit bs os k) (accepted-few bs os k));
+          end = rw (accepted-schedule s bs os h k) (cc same);
+        }
 
-pub too-long : (bs : List ℕ) → 4096 < length bs → printedFor bs ≡ tooLongLine
-unfolding printedFor
-too-long bs h = rw (lt-ltb 4096 (length bs) h)
+module _ (s : Head) (bs : List ℕ) {r : Translated} (is : r ≡ translateOf s bs mostWords mostWords) where
+  module _ {n p : ℕ} (refusal : r ≡ Translated.Refused n p) where
+    pub of-refused : Listed.Refused n p ≡ listedOf s bs
+    unfolding listedOf listedBy
+    of-refused = rw (← is, refusal)
 
--- r is what translation answers for a head at power-on and a plan that is not too long
-pub record Answered (bs : List ℕ) (s : Head) (r : Translated) : Type 0 where
-  pub few : length bs ≤ 4096
-  pub on : s ≡ powerOn
-  pub is : r ≡ translateOf s bs mostWords mostWords
+    pub after-refused : (old : List ℕ) → old ≡ listedAfter s bs old
+    unfolding listedAfter filled
+    after-refused old = rw (← is, refusal)
 
-module _ {bs : List ℕ} {s : Head} {r : Translated} (h : Answered bs s r) where
-  answered : printedFor bs ≡ answerText r (tickList (scheduleOf s (planOf bs))) (wordList (scheduleOf s (planOf bs)))
-  unfolding printedFor
-  answered = rw (le-ltb 4096 (length bs) (h .few), h .is, h .on)
+  module _ {n : ℕ} (short : r ≡ Translated.Short n) where
+    pub of-short : Listed.Refused 10 0 ≡ listedOf s bs
+    unfolding listedOf listedBy
+    of-short = rw (← is, short)
 
-  -- not done: the number and the place of the answer
-  pub of-refused : ((n e : ℕ) → r ≡ Done n e → ⊥) → {n p : ℕ} → n ≡ translatedNumber r → p ≡ translatedPlace r → printedFor bs ≡ refusalLine n p
-  unfolding answerText
-  of-refused other {n} {p} is at = answered ∙ go r refl
-    where
-      go : (t : Translated) → r ≡ t → answerText r (tickList (scheduleOf s (planOf bs))) (wordList (scheduleOf s (planOf bs))) ≡ refusalLine n p
-      go (Done m e) k = absurd (other m e k)
-      go (Refused m q) k = rw (is, at, k)
-      go (Short m) k = rw (is, at, k)
+    pub after-short : (old : List ℕ) → old ≡ listedAfter s bs old
+    unfolding listedAfter filled
+    after-short old = rw (← is, short)
 
-  module _ {n e : ℕ} (done : r ≡ Done n e) where
-    counted : (n ≡ length (scheduleOf s (planOf bs) .list)) × (n ≤ mostWords)
-    unfolding translateOf
-    counted = go (fit s) refl
-      where
-        go : (z : Bool) → fit s ≡ z → (n ≡ length (scheduleOf s (planOf bs) .list)) × (n ≤ mostWords)
-        go true p = done-count (scheduleOf s (planOf bs)) (planOf bs) mostWords mostWords n e (sym (rw p at (h .is)) ∙ done)
-        go false p = let z : _≡_ {A = ℕ} 0 1 = cc (rw p at (h .is)) in absurd (omega arith)
+  module _ {n e : ℕ} (done : r ≡ Translated.Done n e) where
+    of-made : Made s bs n e
+    of-made = made s bs (sym done ∙ is)
 
-    pub done-few : n ≤ mostWords
-    done-few = counted .1
+    pub done-few : (l : List ℕ) → length l ≡ mostWords → n ≤ length l
+    done-few l long = omega (arith, of-made .few)
 
-    -- the first places of a buffer are the values that filled them
+    -- the first places of a list are the values that filled them
     first : (vs old new : List ℕ) → length vs ≡ n → new ≡ filled r vs old → take n new ≡ vs
     unfolding filled
-    first vs old new long is = rw (is, done) (take-at vs (drop (length vs) old) n long)
+    first vs old new long by = rw (by, done) (take-at vs (drop (length vs) old) n long)
 
-    pub of-done : (T₀ W₀ : List ℕ) {T W : List ℕ} → T ≡ filled r (tickList (scheduleOf s (planOf bs))) T₀
-        → W ≡ filled r (wordList (scheduleOf s (planOf bs))) W₀
-        → printedFor bs ≡ listingOf (take n T) (take n W) e
-    unfolding answerText
-    of-done T₀ W₀ {T} {W} t w =
-        let sch = scheduleOf s (planOf bs) in
-        let ticks = first (tickList sch) T₀ T (length-map (sch .list) (λ (x : Timed). x .tick) ∙ sym (counted .0)) t in
-        let words = first (wordList sch) W₀ W (length-map (sch .list) (λ (x : Timed). x .word) ∙ sym (counted .0)) w in
-        answered ∙ rw (done, ticks, words)
+    module _ (T₀ W₀ : List ℕ) {T W : List ℕ} (t : T ≡ filled r (tickList (scheduleOf s (planOf bs))) T₀)
+        (w : W ≡ filled r (wordList (scheduleOf s (planOf bs))) W₀) where
+      done-text : planText s bs ≡ listingOf (take n T) (take n W) e
+      unfolding planText
+      done-text =
+          let sch = scheduleOf s (planOf bs) in
+          let ticks = first (tickList sch) T₀ T (length-map (sch .list) (λ (x : Timed). x .tick) ∙ sym (of-made .count)) t in
+          let words = first (wordList sch) W₀ W (length-map (sch .list) (λ (x : Timed). x .word) ∙ sym (of-made .count)) w in
+          rw (ticks, words, of-made .end)
+
+      module _ {old : List ℕ} {k : ℕ} {new : List ℕ} (h : Written old 0 (listingOf (take n T) (take n W) e) k new) (room : length old ≡ 8192) where
+        front : Front old (planText s bs) k new
+        front = written-front (written-is done-text h) (omega (arith, listing-fits s bs (of-made .fits)))
+
+        pub of-done : Listed.Done k ≡ listedOf s bs
+        unfolding listedOf listedBy
+        of-done = rw (← is, done, front .long)
+
+        pub after-done : new ≡ listedAfter s bs old
+        unfolding listedAfter filled
+        after-done = front .bytes ∙ rw (← is, done, front .long)

@@ -1,4 +1,2 @@
-pub mod Numbers
 pub mod Lines
-pub mod Laid
 pub mod Listing

@@ -3,7 +3,7 @@
 use Prim.Native.Nat.{ℕ}
 use Prim.Native.String.{String}
 use mathlib.Core.List.{List, [], _∷_, _++_}
-use Rattle.text.specs.Numbers.{ascii, decimalOf, hexOf}
+use Rattle.layout.specs.Numbers.{ascii, decimalOf, hexOf}
 
 unfoldable pub headLine : List ℕ
 headLine = ascii "tick word\n"

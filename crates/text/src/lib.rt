@@ -1,4 +1,3 @@
-// Bytes and numbers as text, and what the listing program prints (document 01, "Examples").
+// What the listing program prints (document 01, "Examples").
 pub mod lines;
 pub mod listing;
-pub mod numbers;

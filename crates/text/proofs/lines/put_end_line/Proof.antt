@@ -1,10 +1,7 @@
--- `text::lines::put_end_line` meets its contract: its two parts are laid one after the other.
+-- `text::lines::put_end_line` meets its contract.
 -- Assumes nothing.
-use native.Mathlib.Omega.{arith}
-use Rattle.text.specs.Numbers.{ascii}
-use Rattle.text.specs.Lines.{endLine}
-use Rattle.text.proofs.Laying.{laid-then}
-use Rattle.text.proofs.Putting.{put-laid}
+use Rattle.layout.specs.Numbers.{ascii}
+use Rattle.text.proofs.Printing.{end-line}
 use borrow.Author.Needs.{needs}
 use Rattle.text.proofs.lines.put_end_line.Statement.{statement}
 use Rattle.text.proofs.lines.put_end_line.Tie as tie
@@ -25,11 +22,8 @@ same-length : tie.Need-same-length
 same-length c = search needs
 
 returns : tie.Need-returns
-unfolding endLine ascii
-returns c =
-    let number = put-laid (c .before .before .before .before .before .before .before .put-named .ensures .0) (omega arith) in
-    let line = laid-then number (put-laid (c .before .before .put-bytes .ensures) (omega arith)) in
-    (line, omega arith)
+unfolding ascii
+returns c = search (needs, end-line)
 
 pub put-end-line-spec : {M : Type 1} → statement M
 put-end-line-spec =

@@ -1,10 +1,7 @@
--- `text::lines::put_refusal_line` meets its contract: its three parts are laid one after another.
+-- `text::lines::put_refusal_line` meets its contract.
 -- Assumes nothing.
-use native.Mathlib.Omega.{arith}
-use Rattle.text.specs.Numbers.{ascii}
-use Rattle.text.specs.Lines.{refusalLine}
-use Rattle.text.proofs.Laying.{laid-then}
-use Rattle.text.proofs.Putting.{put-laid}
+use Rattle.layout.specs.Numbers.{ascii}
+use Rattle.text.proofs.Printing.{refusal-line}
 use borrow.Author.Needs.{needs}
 use Rattle.text.proofs.lines.put_refusal_line.Statement.{statement}
 use Rattle.text.proofs.lines.put_refusal_line.Tie as tie
@@ -31,11 +28,8 @@ same-length : tie.Need-same-length
 same-length c = search needs
 
 returns : tie.Need-returns
-unfolding refusalLine ascii
-returns c =
-    let number = put-laid (c .before .before .before .before .before .before .before .before .before .before .before .before .put-named .ensures .0) (omega arith) in
-    let place = put-laid (c .before .before .before .before .before .before .before .put-named2 .ensures .0) (omega arith) in
-    (laid-then (laid-then number place) (put-laid (c .before .before .put-bytes .ensures) (omega arith)), omega arith)
+unfolding ascii
+returns c = search (needs, refusal-line)
 
 pub put-refusal-line-spec : {M : Type 1} → statement M
 put-refusal-line-spec =

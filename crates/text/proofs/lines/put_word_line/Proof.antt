@@ -1,10 +1,7 @@
--- `text::lines::put_word_line` meets its contract: its four parts are laid one after another.
+-- `text::lines::put_word_line` meets its contract.
 -- Assumes nothing.
-use native.Mathlib.Omega.{arith}
-use Rattle.text.specs.Numbers.{ascii}
-use Rattle.text.specs.Lines.{wordLine}
-use Rattle.text.proofs.Laying.{laid-then}
-use Rattle.text.proofs.Putting.{put-laid}
+use Rattle.layout.specs.Numbers.{ascii}
+use Rattle.text.proofs.Printing.{word-line}
 use borrow.Author.Needs.{needs}
 use Rattle.text.proofs.lines.put_word_line.Statement.{statement}
 use Rattle.text.proofs.lines.put_word_line.Tie as tie
@@ -37,12 +34,8 @@ same-length : tie.Need-same-length
 same-length c = search needs
 
 returns : tie.Need-returns
-unfolding wordLine ascii
-returns c =
-    let tick = put-laid (c .before .before .before .before .before .before .before .before .before .before .before .before .before .before .before .before .before .before .put-decimal .ensures .0) (omega arith) in
-    let space = put-laid (c .before .before .before .before .before .before .before .before .before .before .before .before .before .put-bytes .ensures) (omega arith) in
-    let word = rw (c .before .before .before .before .before .before .before .before .before .hex4 .ensures) at (put-laid (c .before .before .before .before .before .before .before .put-bytes2 .ensures) (omega arith)) in
-    (laid-then (laid-then (laid-then tick space) word) (put-laid (c .before .before .put-bytes3 .ensures) (omega arith)), omega arith)
+unfolding ascii
+returns c = search (needs, word-line)
 
 pub put-word-line-spec : {M : Type 1} → statement M
 put-word-line-spec =
