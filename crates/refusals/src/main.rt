@@ -1,21 +1,28 @@
 // A plan for each refusal of document 01's table, with the number and the byte place that translation answers.
 use head::state::Head;
+use libc::STDERR_FILENO;
 use libc::STDOUT_FILENO;
 use schedule::Translated;
 use schedule::translate::MOST_WORDS;
 use schedule::translate::translate;
 use text::lines::refusal_line;
 
+fn check_written(written: bool) {
+    if !written {
+        io::write_all(STDERR_FILENO, b"refusals: could not write\n");
+    }
+}
+
 fn print_refusal(answer: Translated) {
     let mut line = [0u8; 64];
     let n = refusal_line(answer.number(), answer.place(), &mut line);
-    io::write_all(STDOUT_FILENO, &line[..n]);
+    check_written(io::write_all(STDOUT_FILENO, &line[..n]));
 }
 
 fn print_count(count: usize) {
-    io::write_all(STDOUT_FILENO, b"count ");
-    io::print_decimal(STDOUT_FILENO, count as u64);
-    io::write_all(STDOUT_FILENO, b"\n");
+    check_written(io::write_all(STDOUT_FILENO, b"count "));
+    check_written(io::print_decimal(STDOUT_FILENO, count as u64));
+    check_written(io::write_all(STDOUT_FILENO, b"\n"));
 }
 
 fn show(answer: Translated) {
