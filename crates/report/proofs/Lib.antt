@@ -1,6 +1,10 @@
+pub mod Values
 pub mod Rows
-pub mod ActLines
-pub mod ReadBack
-pub mod Sheets
-pub mod Accepted
-pub mod Example
+pub mod Orders
+pub mod Walked
+pub mod States
+pub mod Indexing
+pub mod Taken
+pub mod Parts
+pub mod Logs
+pub mod Simulated

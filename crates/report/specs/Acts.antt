@@ -1,39 +1,48 @@
--- The acts of a rehearsal's sheet: one line for each entry of the head's log (document 01, "Plans"; source document 000, section 4.1).
+-- What the head does, entry by entry of its log (document 01, "Plans"; source document 000, section 4.1).
 -- Assumes nothing.
-use Prim.Native.Nat.{ℕ, suc}
-use mathlib.Core.Bool.{cond}
+use Prim.Native.Nat.{ℕ, _*_}
 use mathlib.Core.List.{List, [], _∷_, _++_}
-use lib.Dec.{eqb}
+use Rattle.head.specs.Limits.{lengthOf, coverStepTicks}
+use Rattle.head.specs.declared.state.Settings.{Settings}
 use Rattle.plan.specs.Reading.{Entry, exposure, request, coverMove}
-use Rattle.text.specs.Numbers.{ascii, decimalOf}
-use Rattle.text.specs.Lines.{named}
-use Rattle.report.specs.Values.{secondsOf}
+use Rattle.layout.specs.Numbers.{ascii}
+use Rattle.layout.specs.Template.{layout}
 use Rattle.report.specs.Settings.{settingsText}
 
--- Direction 1 opens; wave 1 is one wave drive, 0 half wave drive; sensors 1 are enabled.
+-- The mirror pair and the length in seconds.
+unfoldable pub pairTemplate : List ℕ
+pairTemplate = ascii "exposure: sine ~~~~~, cosine ####, length %%%%% s\n"
+
+unfoldable pub pairText : ℕ → ℕ → ℕ → List ℕ
+pairText sine cosine ticks =
+    let values = sine ∷ cosine ∷ ticks ∷ [] in
+    layout pairTemplate values values
+
+-- These first, then all settings.
+unfoldable pub exposureText : Settings → Settings → List ℕ
+exposureText s before = pairText (s .sine) (s .cosine) (lengthOf s) ++ settingsText s before
+
+-- Direction 1 opens; wave 1 is one wave drive, 0 half wave drive; sensors 1 are enabled. A step takes 25 ticks.
+unfoldable pub coverTemplate : List ℕ
+coverTemplate = ascii "cover move: {close|open}, {half|one} wave drive, sensors {disabled|enabled}, @@ steps; @@@@ ticks, %%%%% s\n"
+
 unfoldable pub coverText : ℕ → ℕ → ℕ → ℕ → List ℕ
 coverText direction wave sensors steps =
-    cond (eqb direction 1) (ascii " cover move: direction open") (ascii " cover move: direction close")
-    ++ cond (eqb wave 1) (ascii ", one wave drive") (ascii ", half wave drive")
-    ++ cond (eqb sensors 1) (ascii ", sensors enabled") (ascii ", sensors disabled")
-    ++ named ", " steps
-    ++ ascii " steps"
+    let ticks = coverStepTicks * steps in
+    let values = direction ∷ wave ∷ sensors ∷ steps ∷ ticks ∷ ticks ∷ [] in
+    layout coverTemplate values values
 
-unfoldable pub entryText : Entry → List ℕ
-entryText (exposure s) = ascii " exposure: " ++ settingsText s
-entryText request = ascii " housekeeping request"
-entryText (coverMove d w s n) = coverText d w s n
+unfoldable pub requestTemplate : List ℕ
+requestTemplate = ascii "housekeeping\n"
 
--- A tick, and the seconds that it is.
-unfoldable pub tickText : ℕ → List ℕ
-tickText tick = named " " tick ++ ascii " " ++ secondsOf tick
+-- The settings before are those of the last exposure, or at the start.
+unfoldable pub entryText : Entry → Settings → List ℕ
+entryText (exposure s) before = exposureText s before
+entryText request before = layout requestTemplate [] []
+entryText (coverMove d w s n) before = coverText d w s n
 
--- The number of the act, counted from 1, its tick and what it is.
-unfoldable pub actLine : ℕ → ℕ → Entry → List ℕ
-actLine number tick entry = decimalOf number ++ tickText tick ++ entryText entry ++ ascii "\n"
-
--- A line for each tick and its act, the first of which has the given number.
-unfoldable pub actLines : ℕ → List ℕ → List Entry → List ℕ
-actLines number [] es = []
-actLines number (t ∷ ts) [] = []
-actLines number (t ∷ ts) (e ∷ es) = actLine number t e ++ actLines (suc number) ts es
+-- The settings of the last exposure, once this act is done.
+unfoldable pub exposedBy : Entry → Settings → Settings
+exposedBy (exposure s) before = s
+exposedBy request before = before
+exposedBy (coverMove d w s n) before = before

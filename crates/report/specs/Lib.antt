@@ -1,5 +1,8 @@
-pub mod Values
 pub mod Settings
-pub mod Acts
 pub mod Read
-pub mod Sheet
+pub mod Acts
+pub mod Lines
+pub mod Opening
+pub mod Ending
+pub mod Refusal
+pub mod Report

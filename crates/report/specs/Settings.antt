@@ -1,48 +1,60 @@
--- The settings of a rehearsal's sheet (source document 000, section 4.1). The mirror pair comes first.
+-- The settings of a head in groups (source document 000, section 4.1): mirror and motor; cover; IR; CCD; lamps, shutter and annealing. A
+-- star stands before each value that is another one than before.
 -- Assumes nothing.
-use Prim.Native.Nat.{ℕ}
-use mathlib.Core.Bool.{cond}
-use mathlib.Core.List.{List, _++_}
-use lib.Dec.{eqb}
+use Prim.Native.Nat.{ℕ, _*_}
+use mathlib.Core.List.{List, [], _∷_, _++_}
+use Rattle.words.specs.Fields.{on, current}
+use Rattle.head.specs.Limits.{stepTicks}
 use Rattle.head.specs.declared.state.Settings.{Settings}
-use Rattle.text.specs.Numbers.{ascii}
-use Rattle.text.specs.Lines.{named}
-use Rattle.report.specs.Values.{durationText, sineText, levelText}
-
-unfoldable pub mirrorText : Settings → List ℕ
-mirrorText s = ascii "sine " ++ sineText (s .sine) ++ named ", cosine " (s .cosine)
+use Rattle.layout.specs.Numbers.{ascii}
+use Rattle.layout.specs.Template.{layout}
 
 -- SWITCH 0 is on; direction 1 opens.
-unfoldable pub motorText : Settings → List ℕ
-motorText s =
-    cond (eqb (s .switch) 0) (ascii ", motor on") (ascii ", motor off")
-    ++ cond (eqb (s .direction) 1) (ascii ", cover direction open") (ascii ", cover direction close")
+unfoldable pub mirrorShown : Settings → List ℕ
+mirrorShown s = s .sine ∷ s .cosine ∷ s .switch ∷ s .direction ∷ []
 
-unfoldable pub detectorText : Settings → List ℕ
-detectorText s =
-    cond (eqb (s .detector) 1) (ascii ", detector on") (ascii ", detector off")
-    ++ cond (eqb (s .mode) 0) (ascii ", window mode full") (ascii ", window mode reduced")
-    ++ named ", VDETCOM " (s .vdetcom)
-    ++ named ", VDETADJ " (s .vdetadj)
+unfoldable pub mirrorTemplate : List ℕ
+mirrorTemplate =
+    ascii "        mirror, motor       sine ^~~~~~   cosine ^####   motor ^{on|off}\n"
+    ++ ascii "        cover               direction ^{close|open}\n"
 
-unfoldable pub timesText : Settings → List ℕ
-timesText s =
-    durationText (ascii ", IR delay ") (s .irdelay)
-    ++ durationText (ascii ", IR exposure ") (s .irexpo)
-    ++ durationText (ascii ", CCD delay ") (s .ccddelay)
-    ++ durationText (ascii ", CCD exposure ") (s .ccdexpo)
+unfoldable pub mirrorText : Settings → Settings → List ℕ
+mirrorText s before = layout mirrorTemplate (mirrorShown s) (mirrorShown before)
 
--- X1, Y1, X2, Y2.
-unfoldable pub windowText : Settings → List ℕ
-windowText s = named ", CCD window " (s .x1) ++ named " " (s .y1) ++ named " " (s .x2) ++ named " " (s .y2)
+-- A delay or an exposure is in steps of 0.02 s, which are 2 ticks.
+unfoldable pub irShown : Settings → List ℕ
+irShown s = s .detector ∷ s .mode ∷ s .vdetcom ∷ s .vdetadj ∷ stepTicks * s .irdelay ∷ stepTicks * s .irexpo ∷ []
 
--- Bit 0 is on; the shutter's is closed.
-unfoldable pub lampsText : Settings → List ℕ
-lampsText s =
-    levelText (ascii ", CCD lamp on current ") (ascii ", CCD lamp off current ") (s .ccdlamp)
-    ++ levelText (ascii ", IR lamp on current ") (ascii ", IR lamp off current ") (s .irlamp)
-    ++ levelText (ascii ", shutter closed current ") (ascii ", shutter open current ") (s .shutter)
-    ++ levelText (ascii ", annealing on limit ") (ascii ", annealing off limit ") (s .annealing)
+unfoldable pub irTemplate : List ℕ
+irTemplate =
+    ascii "        IR                  detector ^{off|on }   window mode ^{full   |reduced}   VDETCOM ^####   VDETADJ ^####\n"
+    ++ ascii "                            delay ^%%%%% s   exposure ^%%%%% s\n"
 
-unfoldable pub settingsText : Settings → List ℕ
-settingsText s = mirrorText s ++ motorText s ++ detectorText s ++ timesText s ++ windowText s ++ lampsText s
+unfoldable pub irText : Settings → Settings → List ℕ
+irText s before = layout irTemplate (irShown s) (irShown before)
+
+-- The window is X1, Y1, X2, Y2.
+unfoldable pub ccdShown : Settings → List ℕ
+ccdShown s = stepTicks * s .ccddelay ∷ stepTicks * s .ccdexpo ∷ s .x1 ∷ s .y1 ∷ s .x2 ∷ s .y2 ∷ []
+
+unfoldable pub ccdTemplate : List ℕ
+ccdTemplate =
+    ascii "        CCD                 delay ^%%%%% s   exposure ^%%%%% s   window ^#### ^#### ^#### ^####\n"
+
+unfoldable pub ccdText : Settings → Settings → List ℕ
+ccdText s before = layout ccdTemplate (ccdShown s) (ccdShown before)
+
+-- Bit 0 is on (the shutter's: closed), and the bits above it are the current or limit.
+unfoldable pub lampsShown : Settings → List ℕ
+lampsShown s = on (s .ccdlamp) ∷ current (s .ccdlamp) ∷ on (s .irlamp) ∷ current (s .irlamp) ∷ on (s .shutter) ∷ current (s .shutter) ∷ on (s .annealing) ∷ current (s .annealing) ∷ []
+
+unfoldable pub lampsTemplate : List ℕ
+lampsTemplate =
+    ascii "        lamps               CCD lamp ^{off|on }  current ^#   IR lamp ^{off|on }  current ^##\n"
+    ++ ascii "        shutter, annealing  shutter ^{open  |closed}  current ^##   annealing ^{off|on }  limit ^##\n"
+
+unfoldable pub lampsText : Settings → Settings → List ℕ
+lampsText s before = layout lampsTemplate (lampsShown s) (lampsShown before)
+
+unfoldable pub settingsText : Settings → Settings → List ℕ
+settingsText s before = mirrorText s before ++ irText s before ++ ccdText s before ++ lampsText s before

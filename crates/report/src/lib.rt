@@ -1,5 +1,8 @@
-// The sheet of a rehearsal, which the rehearsal program prints.
+// The report of a plan: from which state it starts, what the head does order by order, and what is left at the end.
 pub mod acts;
+pub mod ending;
+pub mod lines;
+pub mod opening;
+pub mod refusal;
+pub mod report;
 pub mod settings;
-pub mod sheet;
-pub mod values;

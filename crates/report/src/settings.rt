@@ -1,124 +1,149 @@
-// The settings of a rehearsal's sheet, laid into a list of bytes.
-use crate::values::put_choice;
-use crate::values::put_duration;
-use crate::values::put_level;
-use crate::values::put_register;
-use crate::values::put_sine;
+// The settings of a head in groups, each value marked where it is another one than before.
+use head::state::Head;
 use head::state::Settings;
-use text::numbers::put_bytes;
-ghost use Prim.Native.Nat.{_+_, _≤_};
-ghost use lib.ListN.{length};
-ghost use Rattle.text.specs.Laid.{Laid};
-ghost use Rattle.report.specs.Settings.{mirrorText, motorText, detectorText, timesText, windowText, lampsText, settingsText};
+use layout::template::put_template;
+ghost use mathlib.Core.Path.{_≡_};
+ghost use Prim.Native.Nat.{_*_};
+ghost use Rattle.words.specs.Fields.{on as Fields·on, current as Fields·current};
+ghost use Rattle.head.specs.Limits.{stepTicks};
+ghost use Rattle.layout.specs.Written.{Written};
+ghost use Rattle.report.specs.Settings.{mirrorShown, irShown, ccdShown, lampsShown, mirrorText, irText, ccdText, lampsText, settingsText};
 
-fn put_mirror(out: &mut [u8], at: usize, s: Settings) -> usize
-    requires { ⌜ at + 56 ≤ length (now out) ⌝ }
-    ensures { λ r. ⌜ Laid (now (out .entry)) at (mirrorText s) r (now (out .exit)) ⌝ ∗ ⌜ r ≤ at + 56 ⌝ }
+fn wide(register: u16) -> u64
+    ensures { λ r. ⌜ r ≡ register ⌝ }
 {
-    let sine = put_bytes(out, at, b"sine ");
-    let cosine = put_sine(out, sine, s.sine);
-    put_register(out, cosine, b", cosine ", s.cosine)
+    register as u64
 }
 
-fn put_motors(out: &mut [u8], at: usize, s: Settings) -> usize
-    requires { ⌜ at + 66 ≤ length (now out) ⌝ }
-    ensures { λ r. ⌜ Laid (now (out .entry)) at (motorText s) r (now (out .exit)) ⌝ ∗ ⌜ r ≤ at + 66 ⌝ }
+// The ticks of a delay or an exposure.
+fn in_ticks(steps: u16) -> u64
+    ensures { λ r. ⌜ r ≡ stepTicks * steps ⌝ }
 {
-    let cover = put_choice(out, at, s.switch == 0, b", motor on", b", motor off");
-    put_choice(
+    Head::STEP_TICKS as u64 * steps as u64
+}
+
+// Bit 0 of a lamp, the shutter or the annealing, and the current or limit above it.
+fn on(register: u16) -> u64
+    ensures { λ r. ⌜ r ≡ Fields·on register ⌝ }
+{
+    (register % 2) as u64
+}
+
+fn current(register: u16) -> u64
+    ensures { λ r. ⌜ r ≡ Fields·current register ⌝ }
+{
+    (register / 2) as u64
+}
+
+fn mirror_values(s: Settings) -> [u64; 4]
+    ensures { λ r. ⌜ r ≡ mirrorShown s ⌝ }
+{
+    [
+        wide(s.sine),
+        wide(s.cosine),
+        wide(s.switch),
+        wide(s.direction),
+    ]
+}
+
+fn put_mirror(out: &mut [u8], at: usize, s: Settings, before: Settings) -> usize
+    ensures { λ r. ⌜ Written (now (out .entry)) at (mirrorText s before) r (now (out .exit)) ⌝ }
+{
+    put_template(
         out,
-        cover,
-        s.direction == 1,
-        b", cover direction open",
-        b", cover direction close",
+        at,
+        b"        mirror, motor       sine ^~~~~~   cosine ^####   motor ^{on|off}\n        \
+        cover               direction ^{close|open}\n",
+        &mirror_values(s),
+        &mirror_values(before),
     )
 }
 
-fn put_detector(out: &mut [u8], at: usize, s: Settings) -> usize
-    requires { ⌜ at + 126 ≤ length (now out) ⌝ }
-    ensures { λ r. ⌜ Laid (now (out .entry)) at (detectorText s) r (now (out .exit)) ⌝ ∗ ⌜ r ≤ at + 126 ⌝ }
+fn ir_values(s: Settings) -> [u64; 6]
+    ensures { λ r. ⌜ r ≡ irShown s ⌝ }
 {
-    let mode = put_choice(
+    [
+        wide(s.detector),
+        wide(s.mode),
+        wide(s.vdetcom),
+        wide(s.vdetadj),
+        in_ticks(s.irdelay),
+        in_ticks(s.irexpo),
+    ]
+}
+
+fn put_ir(out: &mut [u8], at: usize, s: Settings, before: Settings) -> usize
+    ensures { λ r. ⌜ Written (now (out .entry)) at (irText s before) r (now (out .exit)) ⌝ }
+{
+    put_template(
         out,
         at,
-        s.detector == 1,
-        b", detector on",
-        b", detector off",
-    );
-    let vdetcom = put_choice(
-        out,
-        mode,
-        s.mode == 0,
-        b", window mode full",
-        b", window mode reduced",
-    );
-    let vdetadj = put_register(out, vdetcom, b", VDETCOM ", s.vdetcom);
-    put_register(out, vdetadj, b", VDETADJ ", s.vdetadj)
-}
-
-fn put_times(out: &mut [u8], at: usize, s: Settings) -> usize
-    requires { ⌜ at + 152 ≤ length (now out) ⌝ }
-    ensures { λ r. ⌜ Laid (now (out .entry)) at (timesText s) r (now (out .exit)) ⌝ ∗ ⌜ r ≤ at + 152 ⌝ }
-{
-    let irexpo = put_duration(out, at, b", IR delay ", s.irdelay);
-    let ccddelay = put_duration(out, irexpo, b", IR exposure ", s.irexpo);
-    let ccdexpo = put_duration(out, ccddelay, b", CCD delay ", s.ccddelay);
-    put_duration(out, ccdexpo, b", CCD exposure ", s.ccdexpo)
-}
-
-fn put_window(out: &mut [u8], at: usize, s: Settings) -> usize
-    requires { ⌜ at + 96 ≤ length (now out) ⌝ }
-    ensures { λ r. ⌜ Laid (now (out .entry)) at (windowText s) r (now (out .exit)) ⌝ ∗ ⌜ r ≤ at + 96 ⌝ }
-{
-    let y1 = put_register(out, at, b", CCD window ", s.x1);
-    let x2 = put_register(out, y1, b" ", s.y1);
-    let y2 = put_register(out, x2, b" ", s.x2);
-    put_register(out, y2, b" ", s.y2)
-}
-
-fn put_lamps(out: &mut [u8], at: usize, s: Settings) -> usize
-    requires { ⌜ at + 260 ≤ length (now out) ⌝ }
-    ensures { λ r. ⌜ Laid (now (out .entry)) at (lampsText s) r (now (out .exit)) ⌝ ∗ ⌜ r ≤ at + 260 ⌝ }
-{
-    let irlamp = put_level(
-        out,
-        at,
-        s.ccdlamp,
-        b", CCD lamp on current ",
-        b", CCD lamp off current ",
-    );
-    let shutter = put_level(
-        out,
-        irlamp,
-        s.irlamp,
-        b", IR lamp on current ",
-        b", IR lamp off current ",
-    );
-    let annealing = put_level(
-        out,
-        shutter,
-        s.shutter,
-        b", shutter closed current ",
-        b", shutter open current ",
-    );
-    put_level(
-        out,
-        annealing,
-        s.annealing,
-        b", annealing on limit ",
-        b", annealing off limit ",
+        b"        IR                  detector ^{off|on }   window mode ^{full   |reduced}   VDETCOM ^####   VDETADJ ^####\n                            \
+        delay ^%%%%% s   exposure ^%%%%% s\n",
+        &ir_values(s),
+        &ir_values(before),
     )
 }
 
-// All twenty settings: at most 760 bytes.
-pub(crate) fn put_settings(out: &mut [u8], at: usize, s: Settings) -> usize
-    requires { ⌜ at + 760 ≤ length (now out) ⌝ }
-    ensures { λ r. ⌜ Laid (now (out .entry)) at (settingsText s) r (now (out .exit)) ⌝ ∗ ⌜ r ≤ at + 760 ⌝ }
+fn ccd_values(s: Settings) -> [u64; 6]
+    ensures { λ r. ⌜ r ≡ ccdShown s ⌝ }
 {
-    let motors = put_mirror(out, at, s);
-    let detector = put_motors(out, motors, s);
-    let times = put_detector(out, detector, s);
-    let window = put_times(out, times, s);
-    let lamps = put_window(out, window, s);
-    put_lamps(out, lamps, s)
+    [
+        in_ticks(s.ccddelay),
+        in_ticks(s.ccdexpo),
+        wide(s.x1),
+        wide(s.y1),
+        wide(s.x2),
+        wide(s.y2),
+    ]
+}
+
+fn put_ccd(out: &mut [u8], at: usize, s: Settings, before: Settings) -> usize
+    ensures { λ r. ⌜ Written (now (out .entry)) at (ccdText s before) r (now (out .exit)) ⌝ }
+{
+    put_template(
+        out,
+        at,
+        b"        CCD                 delay ^%%%%% s   exposure ^%%%%% s   window ^#### ^#### ^#### ^####\n",
+        &ccd_values(s),
+        &ccd_values(before),
+    )
+}
+
+fn lamp_values(s: Settings) -> [u64; 8]
+    ensures { λ r. ⌜ r ≡ lampsShown s ⌝ }
+{
+    [
+        on(s.ccdlamp),
+        current(s.ccdlamp),
+        on(s.irlamp),
+        current(s.irlamp),
+        on(s.shutter),
+        current(s.shutter),
+        on(s.annealing),
+        current(s.annealing),
+    ]
+}
+
+fn put_lamps(out: &mut [u8], at: usize, s: Settings, before: Settings) -> usize
+    ensures { λ r. ⌜ Written (now (out .entry)) at (lampsText s before) r (now (out .exit)) ⌝ }
+{
+    put_template(
+        out,
+        at,
+        b"        lamps               CCD lamp ^{off|on }  current ^#   IR lamp ^{off|on }  current ^##\n        \
+        shutter, annealing  shutter ^{open  |closed}  current ^##   annealing ^{off|on }  limit ^##\n",
+        &lamp_values(s),
+        &lamp_values(before),
+    )
+}
+
+// All groups, one after another.
+pub fn put_settings(out: &mut [u8], at: usize, s: Settings, before: Settings) -> usize
+    ensures { λ r. ⌜ Written (now (out .entry)) at (settingsText s before) r (now (out .exit)) ⌝ }
+{
+    let ir = put_mirror(out, at, s, before);
+    let ccd = put_ir(out, ir, s, before);
+    let lamps = put_ccd(out, ccd, s, before);
+    put_lamps(out, lamps, s, before)
 }

@@ -1,0 +1,42 @@
+-- `report::lines::put_place` meets its contract.
+-- Assumes nothing.
+use Rattle.layout.specs.Numbers.{ascii}
+use Rattle.report.specs.Lines.{placeTemplate, placeText}
+use Rattle.report.proofs.Orders.{written-place}
+use borrow.Author.Needs.{needs}
+use Rattle.report.proofs.lines.put_place.Statement.{statement}
+use Rattle.report.proofs.lines.put_place.Tie as tie
+
+bit-requires : tie.Need-bit-requires
+bit-requires c κs = search needs
+
+slice-aggregate-put-template : tie.Need-slice-aggregate-put-template
+slice-aggregate-put-template c = search needs
+
+slice-aggregate-put-template-2 : tie.Need-slice-aggregate-put-template-2
+slice-aggregate-put-template-2 c = search needs
+
+slice-aggregate-put-template-3 : tie.Need-slice-aggregate-put-template-3
+slice-aggregate-put-template-3 c = search needs
+
+put-template-requires : tie.Need-put-template-requires
+put-template-requires c κs = search needs
+
+same-length : tie.Need-same-length
+same-length c = search needs
+
+returns : tie.Need-returns
+unfolding placeTemplate ascii
+returns c = search (needs, written-place)
+
+pub put-place-spec : {M : Type 1} → statement M
+put-place-spec =
+    tie.close
+    (tie.spec
+    bit-requires
+    slice-aggregate-put-template
+    slice-aggregate-put-template-2
+    slice-aggregate-put-template-3
+    put-template-requires
+    same-length
+    returns)

@@ -1,0 +1,40 @@
+-- `report::settings::ccd_values` meets its contract.
+-- Assumes nothing.
+use Rattle.report.specs.Settings.{ccdShown}
+use borrow.Author.Needs.{needs}
+use Rattle.report.proofs.settings.ccd_values.Statement.{statement}
+use Rattle.report.proofs.settings.ccd_values.Tie as tie
+
+in-ticks-requires : tie.Need-in-ticks-requires
+in-ticks-requires c κs = search needs
+
+in-ticks-requires-2 : tie.Need-in-ticks-requires-2
+in-ticks-requires-2 c κs = search needs
+
+wide-requires : tie.Need-wide-requires
+wide-requires c κs = search needs
+
+wide-requires-2 : tie.Need-wide-requires-2
+wide-requires-2 c κs = search needs
+
+wide-requires-3 : tie.Need-wide-requires-3
+wide-requires-3 c κs = search needs
+
+wide-requires-4 : tie.Need-wide-requires-4
+wide-requires-4 c κs = search needs
+
+returns : tie.Need-returns
+unfolding ccdShown
+returns c = search needs depth 12
+
+pub ccd-values-spec : {M : Type 1} → statement M
+ccd-values-spec =
+    tie.close
+    (tie.spec
+    in-ticks-requires
+    in-ticks-requires-2
+    wide-requires
+    wide-requires-2
+    wide-requires-3
+    wide-requires-4
+    returns)

@@ -1,0 +1,46 @@
+-- `report::settings::put_ir` meets its contract.
+-- Assumes nothing.
+use Rattle.layout.specs.Numbers.{ascii}
+use Rattle.report.specs.Settings.{irTemplate, irText}
+use Rattle.report.proofs.Values.{written-values}
+use borrow.Author.Needs.{needs}
+use Rattle.report.proofs.settings.put_ir.Statement.{statement}
+use Rattle.report.proofs.settings.put_ir.Tie as tie
+
+slice-aggregate-put-template : tie.Need-slice-aggregate-put-template
+slice-aggregate-put-template c = search needs
+
+ir-values-requires : tie.Need-ir-values-requires
+ir-values-requires c κs = search needs
+
+slice-aggregate-put-template-2 : tie.Need-slice-aggregate-put-template-2
+slice-aggregate-put-template-2 c = search needs
+
+ir-values-requires-2 : tie.Need-ir-values-requires-2
+ir-values-requires-2 c κs = search needs
+
+slice-aggregate-put-template-3 : tie.Need-slice-aggregate-put-template-3
+slice-aggregate-put-template-3 c = search needs
+
+put-template-requires : tie.Need-put-template-requires
+put-template-requires c κs = search needs
+
+same-length : tie.Need-same-length
+same-length c = search needs
+
+returns : tie.Need-returns
+unfolding irText irTemplate ascii
+returns c = search (needs, written-values)
+
+pub put-ir-spec : {M : Type 1} → statement M
+put-ir-spec =
+    tie.close
+    (tie.spec
+    slice-aggregate-put-template
+    ir-values-requires
+    slice-aggregate-put-template-2
+    ir-values-requires-2
+    slice-aggregate-put-template-3
+    put-template-requires
+    same-length
+    returns)
