@@ -6,3 +6,4 @@ pub mod Values
 pub mod Copying
 pub mod Marks
 pub mod Filling
+pub mod Widths

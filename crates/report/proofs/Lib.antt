@@ -8,3 +8,4 @@ pub mod Taken
 pub mod Parts
 pub mod Logs
 pub mod Simulated
+pub mod Fitting
