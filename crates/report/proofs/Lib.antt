@@ -9,3 +9,4 @@ pub mod Parts
 pub mod Logs
 pub mod Simulated
 pub mod Fitting
+pub mod Accepted

@@ -27,6 +27,7 @@ use Rattle.schedule.specs.declared.Translated.{Translated}
 use Rattle.run.specs.Run.{headAfter, logOf}
 use Rattle.run.specs.Rehearse.{runOf, runRecord}
 use Rattle.run.specs.Compare.{same, comparedBy, comparedOf, comparedNumber, comparedPlace}
+use Rattle.run.specs.Listed.{NoCause}
 use Rattle.run.specs.Claim.{paired, Demands}
 use Rattle.run.specs.declared.compare.Compared.{Compared}
 use Rattle.run.proofs.Accepted.{translated-demands, translated-list, translated-end}
@@ -51,8 +52,6 @@ pub record Simulated (given : Head) (bs W T R : List ℕ) (rest : ℕ) (s : Head
   pub wordsIs : W' ≡ filled (translateOf s bs mostWords mostWords) (wordList (scheduleOf s (planOf bs))) W
   pub ticksIs : T' ≡ filled (translateOf s bs mostWords mostWords) (tickList (scheduleOf s (planOf bs))) T
   pub rowsIs : R' ≡ filled (translateOf s bs mostWords mostWords) (runRecord s (scheduleOf s (planOf bs))) R
-  pub number : comparedNumber c ≡ translationNumber s bs mostWords mostWords
-  pub place : comparedPlace c ≡ translationPlace s bs
 
 -- what an answer Done says
 record Parts (s : Head) (bs : List ℕ) (h : Head) (n e : ℕ) (b : Bool) : Type 0 where
@@ -132,6 +131,10 @@ module _ {given : Head} {bs W T R : List ℕ} {rest : ℕ} {s : Head} {c : Compa
         let whole = translated-listed s bs W T W' T' n e answer words ticks .answer mostWords few in
         (even, (few, ap (λ (r : Listed). r .answer) whole))
 
+    -- no outcome of the list is a cause
+    pub lists-taken : NoCause (numbersListed (wordList sch) (tickList sch) s)
+    lists-taken = rw (← words-are, ← ticks-are) (translated-listed s bs W T W' T' n e answer words ticks .taken)
+
     pub accepted : planOf bs ≡ orders (ordersIn (planOf bs))
     accepted = demands .accepted
 
@@ -189,7 +192,7 @@ module _ {given : Head} {bs W T R : List ℕ} {rest : ℕ} {s : Head} {c : Compa
         )
 
     -- done: the promises of the report
-    pub way-done : {t : ℕ} → t ≡ takenIn (numbersListed (take n W') (take n T') s) → {out : List ℕ} {k : ℕ} {out' : List ℕ}
+    pub way-done : comparedNumber c ≡ translationNumber s bs mostWords mostWords → comparedPlace c ≡ translationPlace s bs → {t : ℕ} → t ≡ takenIn (numbersListed (take n W') (take n T') s) → {out : List ℕ} {k : ℕ} {out' : List ℕ}
         → Written out 0 (textOf bs (take n T') (entriesIn 65 R') (record { given = given; rest = rest; head = s }) last
         (record { end = e; words = n; taken = t; equal = b })) k out'
         → (Reported.Done last k ≡ reportedOf given bs (length out))
@@ -197,17 +200,17 @@ module _ {given : Head} {bs W T R : List ℕ} {rest : ℕ} {s : Head} {c : Compa
         × ((reportedNumber (Reported.Done last k) ≡ translationNumber (rested given) bs mostWords mostWords)
         × (reportedPlace (Reported.Done last k) ≡ translationPlace (rested given) bs)))
     unfolding reportedOf reportedBy reportAfter
-    way-done taken {out} {k} w =
+    way-done number place-is taken {out} {k} w =
         let written = rw (text-is taken) at w in
         let place : k ≡ min (length (reportText given bs)) (length out) = written .place ∙ rw (zero-add (length (reportText given bs))) in
-        (rw (← same-start, ← h .is, is, place), (written .bytes, (rw (is, same-start) at (h .number), rw (is, same-start) at (h .place))))
+        (rw (← same-start, ← h .is, is, place), (written .bytes, (rw (is, same-start) at number, rw (is, same-start) at place-is)))
 
   -- refused: the comparison's number and place, and nothing is written
-  pub way-refused : {m p : ℕ} → c ≡ Compared.Refused m p → (out : List ℕ)
+  pub way-refused : comparedNumber c ≡ translationNumber s bs mostWords mostWords → comparedPlace c ≡ translationPlace s bs → {m p : ℕ} → c ≡ Compared.Refused m p → (out : List ℕ)
       → (Reported.Refused m p ≡ reportedOf given bs (length out))
       × ((out ≡ reportAfter (Reported.Refused m p) (reportText given bs) out)
       × ((reportedNumber (Reported.Refused m p) ≡ translationNumber (rested given) bs mostWords mostWords)
       × (reportedPlace (Reported.Refused m p) ≡ translationPlace (rested given) bs)))
   unfolding reportedOf reportedBy reportAfter
-  way-refused is out =
-      (rw (← same-start, ← h .is, is), (refl, (rw (is, same-start) at (h .number), rw (is, same-start) at (h .place))))
+  way-refused number place-is is out =
+      (rw (← same-start, ← h .is, is), (refl, (rw (is, same-start) at number, rw (is, same-start) at place-is)))

@@ -37,7 +37,7 @@ module _ (s : Head) (bs : List ℕ) (os : List Order) (h : fit s ≡ true) (e : 
   log-is : logOf (runOf s (scheduleFrom s 0 (itemsOfAll os))) ≡ logRead (s .settings) os
   log-is = run-whole s os h (accepted-fit bs os e) .log
 
-  record-is : runRecord s (scheduleFrom s 0 (itemsOfAll os)) ≡ readRecord (s .settings) (planOf bs)
+  pub record-is : runRecord s (scheduleFrom s 0 (itemsOfAll os)) ≡ readRecord (s .settings) (planOf bs)
   unfolding runRecord readRecord
   record-is = rw (e, log-is, run-whole s os h (accepted-fit bs os e) .settings)
 

@@ -34,8 +34,6 @@ simulated t =
       wordsIs = e .1 .0;
       ticksIs = e .1 .1 .0;
       rowsIs = e .1 .1 .1 .0;
-      number = e .1 .1 .1 .1 .1 .0;
-      place = e .1 .1 .1 .1 .1 .1;
     }
 
 rest-ticks-requires : tie.Need-rest-ticks-requires
@@ -84,10 +82,10 @@ same-length : tie.Need-same-length
 same-length c = search needs
 
 returns : tie.Need-returns
-returns c = way-done (simulated (c .before .before .before .before .before .before .before .before .before .before .before .before)) (c .before .before .before .before .before .before .before .before .before .before .answer .given .1) (c .before .before .before .before .before .before .taken-words .ensures) (c .before .before .put-report .ensures)
+returns c = way-done (simulated (c .before .before .before .before .before .before .before .before .before .before .before .before)) (c .before .before .before .before .before .before .before .before .before .before .answer .given .1) (c .before .before .before .before .before .before .before .before .before .before .before .before .compare .ensures .1 .1 .1 .1 .1 .0) (c .before .before .before .before .before .before .before .before .before .before .before .before .compare .ensures .1 .1 .1 .1 .1 .1) (c .before .before .before .before .before .before .taken-words .ensures) (c .before .before .put-report .ensures)
 
 returns-2 : tie.Need-returns-2
-returns-2 c = way-refused (simulated (c .before .before .before)) (c .before .answer2 .given .1) _
+returns-2 c = way-refused (simulated (c .before .before .before)) (c .before .before .before .compare .ensures .1 .1 .1 .1 .1 .0) (c .before .before .before .compare .ensures .1 .1 .1 .1 .1 .1) (c .before .answer2 .given .1) _
 
 pub report-spec : {M : Type 1} → statement M
 report-spec =

@@ -1,0 +1,125 @@
+-- The report of every accepted plan: its acts and its settings at the end are those of the plan read without words, every word was taken,
+-- and it says so.
+-- Assumes nothing.
+use mathlib.Core.Path.{_≡_, refl, sym, ap, _∙_}
+use mathlib.Core.Bool.{Bool, true, false, not, _&&_}
+use mathlib.Core.List.{List, [], _∷_}
+use Prim.Native.Nat.{ℕ, _+_, _≤_}
+use native.Mathlib.Decide.{ℕ-discrete}
+use native.Mathlib.Omega.{arith}
+use borrow.Author.Tests.{leb-true}
+use lib.Dec.{leb}
+use lib.ListN.{length, take, replicate, length-map}
+use Rattle.words.proofs.Tests.{and-left, and-right}
+use Rattle.head.specs.Busy.{restTicks}
+use Rattle.head.specs.Numbers.{causeNumber}
+use Rattle.head.specs.List.{numbersListed}
+use Rattle.head.specs.declared.state.Head.{Head}
+use Rattle.head.specs.declared.word.Cause.{Cause}
+use Rattle.head.specs.declared.word.Cause.the-variants.{State, Busy, UnknownWord, Range, Turn}
+use Rattle.head.proofs.Giving.{numbers-long}
+use Rattle.orders.specs.declared.order.Order.{Order}
+use Rattle.plan.specs.Read.{readRecord}
+use Rattle.plan.specs.Reading.{settingsRead, logRead}
+use Rattle.plan.specs.Stored.{orders, planOf, ordersIn}
+use Rattle.plan.proofs.Accepted.{accepted-fit}
+use Rattle.orders.specs.Words.{itemsOfAll}
+use Rattle.schedule.specs.Schedule.{Timed, Schedule, scheduleFrom}
+use Rattle.schedule.specs.Translate.{fit, mostWords, scheduleOf, translateOf, wordList, tickList, filled}
+use Rattle.schedule.specs.declared.Translated.{Translated}
+use Rattle.schedule.proofs.Accepted.{accepted-schedule}
+use Rattle.run.specs.Run.{headAfter, logOf}
+use Rattle.run.specs.Rehearse.{runOf, runRecord}
+use Rattle.run.specs.Compare.{same, comparedOf}
+use Rattle.run.specs.Listed.{NoCause}
+use Rattle.run.specs.declared.compare.Compared.{Compared}
+use Rattle.run.proofs.Whole.{run-whole}
+use Rattle.run.proofs.Comparing.{same-self}
+use Rattle.run.proofs.Equal.{compared-equal, record-is}
+use Rattle.layout.specs.Numbers.{bit}
+use Rattle.report.specs.Report.{rested, isTaken, takenIn, textOf, reportText}
+use Rattle.report.proofs.Simulated.{Simulated, lists-taken}
+
+-- a number that is no cause's is that of a word that was taken
+no-cause : (n : ℕ) → ((c : Cause) → n ≡ causeNumber c → ⊥) → isTaken n ≡ true
+unfolding causeNumber
+no-cause n h = go (leb 21 n && leb n 25) refl
+  where
+    go : (z : Bool) → (leb 21 n && leb n 25) ≡ z → not z ≡ true
+    go false e = refl
+    go true e =
+        let low = leb-true 21 n (and-left (leb 21 n) (leb n 25) e) in
+        let high = leb-true n 25 (and-right (leb 21 n) (leb n 25) e) in
+        absurd (each (ℕ-discrete n 21) (ℕ-discrete n 22) (ℕ-discrete n 23) (ℕ-discrete n 24) low high)
+      where
+        each : Dec (n ≡ 21) → Dec (n ≡ 22) → Dec (n ≡ 23) → Dec (n ≡ 24) → 21 ≤ n → n ≤ 25 → ⊥
+        each (yes a) b c d low high = h State a
+        each (no a) (yes b) c d low high = h Busy b
+        each (no a) (no b) (yes c) d low high = h UnknownWord c
+        each (no a) (no b) (no c) (yes d) low high = h Range d
+        each (no a) (no b) (no c) (no d) low high = h Turn (omega arith)
+
+all-taken : (ns : List ℕ) → NoCause ns → takenIn ns ≡ length ns
+unfolding takenIn
+all-taken [] h = refl
+all-taken (n ∷ ns) h = rw (no-cause n (h .0), all-taken ns (h .1)) (omega arith)
+
+module _ (given : Head) (bs : List ℕ) (os : List Order) (h : fit (rested given) ≡ true) (e : planOf bs ≡ orders os) where
+  abbrev sch : Schedule
+  sch = scheduleFrom (rested given) 0 (itemsOfAll os)
+
+  abbrev answer : Translated
+  answer = translateOf (rested given) bs mostWords mostWords
+
+  -- the comparison, with buffers of zeros
+  abbrev zeros : List ℕ
+  zeros = replicate mostWords 0
+
+  abbrev rows : List ℕ
+  rows = replicate 1365 0
+
+  simulated : Simulated given bs zeros zeros rows (restTicks given) (rested given) (comparedOf (rested given) bs)
+    (filled answer (wordList (scheduleOf (rested given) (planOf bs))) zeros)
+    (filled answer (tickList (scheduleOf (rested given) (planOf bs))) zeros)
+    (filled answer (runRecord (rested given) (scheduleOf (rested given) (planOf bs))) rows)
+  simulated =
+      record {
+        ticks = refl;
+        start = refl;
+        longW = refl;
+        longT = refl;
+        longR = refl;
+        is = refl;
+        wordsIs = refl;
+        ticksIs = refl;
+        rowsIs = refl;
+      }
+
+  scheduled : scheduleOf (rested given) (planOf bs) ≡ sch
+  scheduled = accepted-schedule (rested given) bs os h e
+
+  taken : takenIn (numbersListed (wordList sch) (tickList sch) (rested given)) ≡ length (sch .list)
+  taken =
+      let none = rw scheduled at (lists-taken simulated (compared-equal (rested given) bs os h e)) in
+      let even = length-map (sch .list) (λ (x : Timed). x .word) ∙ sym (length-map (sch .list) (λ (x : Timed). x .tick)) in
+      all-taken (numbersListed (wordList sch) (tickList sch) (rested given)) none
+      ∙ numbers-long (wordList sch) (tickList sch) (rested given) even
+      ∙ length-map (sch .list) (λ (x : Timed). x .word)
+
+  pub accepted-report : reportText given bs
+      ≡ textOf bs (tickList sch) (logRead (rested given .settings) os) (record { given = given; rest = restTicks given; head = rested given })
+      (headAfter (sch .end) 0 (sch .list) (rested given))
+      (record { end = sch .end; words = length (sch .list); taken = length (sch .list); equal = true })
+  unfolding reportText
+  accepted-report =
+      let run = run-whole (rested given) os h (accepted-fit bs os e) in
+      rw (
+        scheduled,
+        run .log,
+        taken,
+        record-is (rested given) bs os h e,
+        same-self (readRecord (rested given .settings) (planOf bs)),
+      )
+
+  pub accepted-settings : headAfter (sch .end) 0 (sch .list) (rested given) .settings ≡ settingsRead (rested given .settings) os
+  accepted-settings = run-whole (rested given) os h (accepted-fit bs os e) .settings
