@@ -9,7 +9,7 @@ use native.Mathlib.Decide.{ℕ-discrete}
 use native.Mathlib.Omega.{arith}
 use borrow.Author.Tests.{leb-true}
 use lib.Dec.{leb}
-use lib.ListN.{length, take, replicate, length-map}
+use lib.ListN.{length, length-map}
 use Rattle.words.proofs.Tests.{and-left, and-right}
 use Rattle.head.specs.Busy.{restTicks}
 use Rattle.head.specs.Numbers.{causeNumber}
@@ -21,24 +21,21 @@ use Rattle.head.proofs.Giving.{numbers-long}
 use Rattle.orders.specs.declared.order.Order.{Order}
 use Rattle.plan.specs.Read.{readRecord}
 use Rattle.plan.specs.Reading.{settingsRead, logRead}
-use Rattle.plan.specs.Stored.{orders, planOf, ordersIn}
+use Rattle.plan.specs.Stored.{orders, planOf}
 use Rattle.plan.proofs.Accepted.{accepted-fit}
 use Rattle.orders.specs.Words.{itemsOfAll}
 use Rattle.schedule.specs.Schedule.{Timed, Schedule, scheduleFrom}
-use Rattle.schedule.specs.Translate.{fit, mostWords, scheduleOf, translateOf, wordList, tickList, filled}
-use Rattle.schedule.specs.declared.Translated.{Translated}
+use Rattle.schedule.specs.Translate.{fit, scheduleOf, wordList, tickList}
 use Rattle.schedule.proofs.Accepted.{accepted-schedule}
 use Rattle.run.specs.Run.{headAfter, logOf}
-use Rattle.run.specs.Rehearse.{runOf, runRecord}
-use Rattle.run.specs.Compare.{same, comparedOf}
+use Rattle.run.specs.Rehearse.{runOf}
 use Rattle.run.specs.Listed.{NoCause}
-use Rattle.run.specs.declared.compare.Compared.{Compared}
 use Rattle.run.proofs.Whole.{run-whole}
 use Rattle.run.proofs.Comparing.{same-self}
 use Rattle.run.proofs.Equal.{compared-equal, record-is}
 use Rattle.layout.specs.Numbers.{bit}
 use Rattle.report.specs.Report.{rested, isTaken, takenIn, textOf, reportText}
-use Rattle.report.proofs.Simulated.{Simulated, lists-taken}
+use Rattle.report.proofs.Simulated.{simulated-zeros, lists-taken}
 
 -- a number that is no cause's is that of a word that was taken
 no-cause : (n : ℕ) → ((c : Cause) → n ≡ causeNumber c → ⊥) → isTaken n ≡ true
@@ -68,39 +65,12 @@ module _ (given : Head) (bs : List ℕ) (os : List Order) (h : fit (rested given
   abbrev sch : Schedule
   sch = scheduleFrom (rested given) 0 (itemsOfAll os)
 
-  abbrev answer : Translated
-  answer = translateOf (rested given) bs mostWords mostWords
-
-  -- the comparison, with buffers of zeros
-  abbrev zeros : List ℕ
-  zeros = replicate mostWords 0
-
-  abbrev rows : List ℕ
-  rows = replicate 1365 0
-
-  simulated : Simulated given bs zeros zeros rows (restTicks given) (rested given) (comparedOf (rested given) bs)
-    (filled answer (wordList (scheduleOf (rested given) (planOf bs))) zeros)
-    (filled answer (tickList (scheduleOf (rested given) (planOf bs))) zeros)
-    (filled answer (runRecord (rested given) (scheduleOf (rested given) (planOf bs))) rows)
-  simulated =
-      record {
-        ticks = refl;
-        start = refl;
-        longW = refl;
-        longT = refl;
-        longR = refl;
-        is = refl;
-        wordsIs = refl;
-        ticksIs = refl;
-        rowsIs = refl;
-      }
-
   scheduled : scheduleOf (rested given) (planOf bs) ≡ sch
   scheduled = accepted-schedule (rested given) bs os h e
 
   taken : takenIn (numbersListed (wordList sch) (tickList sch) (rested given)) ≡ length (sch .list)
   taken =
-      let none = rw scheduled at (lists-taken simulated (compared-equal (rested given) bs os h e)) in
+      let none = rw scheduled at (lists-taken (simulated-zeros given bs) (compared-equal (rested given) bs os h e)) in
       let even = length-map (sch .list) (λ (x : Timed). x .word) ∙ sym (length-map (sch .list) (λ (x : Timed). x .tick)) in
       all-taken (numbersListed (wordList sch) (tickList sch) (rested given)) none
       ∙ numbers-long (wordList sch) (tickList sch) (rested given) even

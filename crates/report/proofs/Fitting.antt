@@ -31,10 +31,12 @@ use Rattle.report.specs.Opening.{flagsShown, planTemplate, startTemplate
 use Rattle.report.specs.Ending as end
 use Rattle.report.specs.Ending.{motionShown, sameFlags, endTemplate, mirrorTemplate as motionTemplate, endText, motionText, flagsTemplate, sinceTemplate, flagsText, wordsTemplate, wordsText, readingTemplate, readingText, checksText, endingText}
 use Rattle.report.specs.Refusal.{refusalTemplate, refusalText}
-use Rattle.report.specs.Report.{textOf, reportText}
+use Rattle.report.specs.Report.{textOf, reportText, reportedOf}
 use Rattle.report.specs.declared.opening.Counts.{Counts}
 use Rattle.report.specs.declared.ending.Outcome.{Outcome}
 use Rattle.report.specs.declared.report.Start.{Start}
+use Rattle.report.specs.declared.report.Reported.{Reported}
+use Rattle.report.proofs.Simulated.{reported-few}
 
 abbrev mostSettings : ℕ
 mostSettings = length mirrorTemplate + length irTemplate + length ccdTemplate + length lampsTemplate
@@ -253,6 +255,11 @@ text-few bs ticks log start last o few =
 pub report-fits : (s : Head) (bs : List ℕ) → length (ordersIn (planOf bs)) ≤ 64 → length (reportText s bs) ≤ 65536
 unfolding reportText
 report-fits s bs few = le-trans (text-few bs _ _ _ _ _ few) all-few
+
+-- a plan that is reported is one of them
+pub reported-fits : (given : Head) (bs : List ℕ) (room : ℕ) {h : Head} {n : ℕ} → reportedOf given bs room ≡ Reported.Done h n
+    → length (reportText given bs) ≤ 65536
+reported-fits given bs room is = report-fits given bs (reported-few given bs room is)
 
 pub refusal-fits : (number place : ℕ) (bs : List ℕ) → length (refusalText number place bs) ≤ 1024
 unfolding refusalText refusalTemplate ascii

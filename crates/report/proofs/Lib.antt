@@ -10,3 +10,4 @@ pub mod Logs
 pub mod Simulated
 pub mod Fitting
 pub mod Accepted
+pub mod Printing

@@ -6,7 +6,7 @@ use mathlib.Core.List.{List, map}
 use Prim.Native.Nat.{ℕ, _+_, _*_, _≤_, _<_, min}
 use native.Mathlib.Nat.{zero-add}
 use native.Mathlib.Omega.{arith}
-use lib.ListN.{length, take, drop, length-map, length-take}
+use lib.ListN.{length, take, drop, replicate, length-map, length-take}
 use lib.Seq.{sets, take-at, length-take-le}
 use Rattle.head.specs.Busy.{restTicks}
 use Rattle.head.specs.Tick.{ticksOf}
@@ -138,6 +138,9 @@ module _ {given : Head} {bs W T R : List ℕ} {rest : ℕ} {s : Head} {c : Compa
     pub accepted : planOf bs ≡ orders (ordersIn (planOf bs))
     accepted = demands .accepted
 
+    pub orders-few : length (ordersIn (planOf bs)) ≤ 64
+    orders-few = demands .few
+
     log-is : length (logOf (runOf s sch)) ≡ actsIn (ordersIn (planOf bs))
     log-is =
         let list = translated-list s bs W T W' T' n e answer words ticks in
@@ -214,3 +217,36 @@ module _ {given : Head} {bs W T R : List ℕ} {rest : ℕ} {s : Head} {c : Compa
   unfolding reportedOf reportedBy reportAfter
   way-refused number place-is is out =
       (rw (← same-start, ← h .is, is), (refl, (rw (is, same-start) at number, rw (is, same-start) at place-is)))
+
+-- the comparison with buffers of zeros
+pub simulated-zeros : (given : Head) (bs : List ℕ)
+    → let s = rested given in
+    let answer = translateOf s bs mostWords mostWords in
+    let sch = scheduleOf s (planOf bs) in
+    Simulated given bs (replicate mostWords 0) (replicate mostWords 0) (replicate 1365 0) (restTicks given) s (comparedOf s bs)
+    (filled answer (wordList sch) (replicate mostWords 0))
+    (filled answer (tickList sch) (replicate mostWords 0))
+    (filled answer (runRecord s sch) (replicate 1365 0))
+simulated-zeros given bs =
+    record {
+      ticks = refl;
+      start = refl;
+      longW = refl;
+      longT = refl;
+      longR = refl;
+      is = refl;
+      wordsIs = refl;
+      ticksIs = refl;
+      rowsIs = refl;
+    }
+
+-- a plan that is reported has at most 64 orders
+pub reported-few : (given : Head) (bs : List ℕ) (room : ℕ) {h : Head} {n : ℕ} → reportedOf given bs room ≡ Reported.Done h n
+    → length (ordersIn (planOf bs)) ≤ 64
+unfolding reportedOf reportedBy
+reported-few given bs room {h} {n} is = go (comparedOf (rested given) bs) refl is
+  where
+    go : (c : Compared) → comparedOf (rested given) bs ≡ c → reportedBy (reportText given bs) room (comparedOf (rested given) bs) ≡ Reported.Done h n
+        → length (ordersIn (planOf bs)) ≤ 64
+    go (Compared.Done l m e a b) k eq = orders-few (simulated-zeros given bs) k
+    go (Compared.Refused m p) k eq = let w = rw k at eq in let z : _≡_ {A = ℕ} 0 1 = cc in absurd (omega arith)

@@ -24,7 +24,7 @@ exposureText s before = pairText (s .sine) (s .cosine) (lengthOf s) ++ settingsT
 
 -- Direction 1 opens; wave 1 is one wave drive, 0 half wave drive; sensors 1 are enabled. A step takes 25 ticks.
 unfoldable pub coverTemplate : List ℕ
-coverTemplate = ascii "cover move: {close|open}, {half|one} wave drive, sensors {disabled|enabled}, @@ steps; @@@@ ticks, %%%%% s\n"
+coverTemplate = ascii "cover {close|open}, {half|one} wave, sensors {disabled|enabled}, @@ steps: @@@@ ticks, %%%%% s\n"
 
 unfoldable pub coverText : ℕ → ℕ → ℕ → ℕ → List ℕ
 coverText direction wave sensors steps =

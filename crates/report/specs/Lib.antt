@@ -6,3 +6,4 @@ pub mod Opening
 pub mod Ending
 pub mod Refusal
 pub mod Report
+pub mod Printed

@@ -87,7 +87,7 @@ fn put_cover_move(
     put_template(
         out,
         at,
-        b"cover move: {close|open}, {half|one} wave drive, sensors {disabled|enabled}, @@ steps; @@@@ ticks, %%%%% s\n",
+        b"cover {close|open}, {half|one} wave, sensors {disabled|enabled}, @@ steps: @@@@ ticks, %%%%% s\n",
         &values,
         &values,
     )

@@ -3,6 +3,7 @@ pub mod acts;
 pub mod ending;
 pub mod lines;
 pub mod opening;
+pub mod printed;
 pub mod refusal;
 pub mod report;
 pub mod settings;
