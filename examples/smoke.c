@@ -193,11 +193,41 @@ static void refuse_plan(void)
            (unsigned)(answer >> 32));
 }
 
+/* The listing, two reports in a row on one state, and a refusal in words. */
+static void print_texts(void)
+{
+    static const uint8_t cover[] = {1, 0, 6, 5, 14, 1, 0, 0, 81};
+    static const uint8_t expose[] = {1, 0, 2, 1, 15};
+    static const uint8_t faulty[] = {1, 0, 5, 1, 15, 2, 5, 2};
+    static uint8_t text[SHABGOZIM_REPORT];
+    uint16_t state[SHABGOZIM_STATE];
+
+    shabgozim_power_on(state, SHABGOZIM_STATE);
+    uint64_t listed = shabgozim_listing(state, SHABGOZIM_STATE, expose,
+                                        sizeof expose, text, sizeof text);
+    fwrite(text, 1, (size_t)(listed >> 32), stdout);
+    uint64_t first = shabgozim_report(state, SHABGOZIM_STATE, cover,
+                                      sizeof cover, text, sizeof text);
+    printf("report of %u bytes, cover moves for %u ticks more\n",
+           (unsigned)(first >> 32), state[SHABGOZIM_COVER_MOTION]);
+    uint64_t second = shabgozim_report(state, SHABGOZIM_STATE, expose,
+                                       sizeof expose, text, sizeof text);
+    printf("report of %u bytes, cover moves for %u ticks more\n",
+           (unsigned)(second >> 32), state[SHABGOZIM_COVER_MOTION]);
+    uint64_t refused = shabgozim_report(state, SHABGOZIM_STATE, faulty,
+                                        sizeof faulty, text, sizeof text);
+    uint32_t length = shabgozim_refusal((uint8_t)refused,
+                                        (uint32_t)(refused >> 32), faulty,
+                                        sizeof faulty, text, sizeof text);
+    fwrite(text, 1, length, stdout);
+}
+
 int main(void)
 {
     by_hand();
     run_plan();
     run_lists();
     refuse_plan();
+    print_texts();
     return 0;
 }

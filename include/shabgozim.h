@@ -207,6 +207,59 @@ uint64_t shabgozim_translate(const uint16_t *state, size_t state_length,
                              uint32_t *ticks, size_t ticks_length);
 
 /* ------------------------------------------------------------------------
+ * Texts for people: the listing of a plan, the report of its simulation, and a
+ * refusal in words. They are ASCII, every line ends in a newline, and no zero
+ * follows them.
+ */
+
+/* Bytes that have room for every text of their kind. */
+enum {
+    SHABGOZIM_LISTING = 8192,
+    SHABGOZIM_REPORT = 65536,
+    SHABGOZIM_REFUSAL = 1024
+};
+
+/*
+ * Writes the listing of a plan for a head in this state: the words with their
+ * ticks, as the program `listing` prints them.
+ *
+ * Bits 0-7 of the answer: 0; 1-9 as `shabgozim_translate`; 10 where `text` is
+ * shorter than the listing. Bits 32-63: for 0 and 10 the length of the listing;
+ * for 5-9 the place of the faulty order's length byte; else 0. All other bits
+ * are 0.
+ *
+ * Success writes the listing into the first bytes of `text`, and no other.
+ */
+uint64_t shabgozim_listing(const uint16_t *state, size_t state_length,
+                           const uint8_t *plan, size_t plan_length,
+                           uint8_t *text, size_t text_length);
+
+/*
+ * Lets ticks pass until the head is idle and nothing moves, simulates the plan
+ * on it, writes the report, and advances the state to the plan's end. So several
+ * plans in a row are reported by one call for each, on one state.
+ *
+ * The answer is packed as that of `shabgozim_listing`. Since the head comes to
+ * rest first, 1 is left for states that are out of range. A refusal leaves both
+ * `state` and `text` as they were.
+ */
+uint64_t shabgozim_report(uint16_t *state, size_t state_length,
+                          const uint8_t *plan, size_t plan_length,
+                          uint8_t *text, size_t text_length);
+
+/*
+ * Writes a refusal of `plan` in words, one line: its number, its rule, its byte
+ * place and, for 5-9, the index of the order, counted from 1. `number` and
+ * `place` are those of the answers above or of `shabgozim_translate`.
+ *
+ * Answers the length of the line; 0 where `number` is not 1-10 or `text` is
+ * shorter than the line, and then writes nothing.
+ */
+uint32_t shabgozim_refusal(uint8_t number, uint32_t place,
+                           const uint8_t *plan, size_t plan_length,
+                           uint8_t *text, size_t text_length);
+
+/* ------------------------------------------------------------------------
  * Housekeeping blocks. They are due when a tick says so, and show the state
  * after that tick.
  */
