@@ -16,7 +16,7 @@ use Rattle.plan.specs.Reading.{Entry, exposure, request, coverMove, entriesBy, 
 use Rattle.plan.specs.Rows.{settingsRow, entryRow, rowsOf, endRow, recordOf}
 use Rattle.plan.specs.Read.{atFront}
 use Rattle.layout.specs.Numbers.{bit}
-use Rattle.report.specs.Read.{rowAt, rowEntry, entriesIn}
+use Rattle.report.specs.Read.{rowEntry, entriesIn}
 use Rattle.report.specs.Acts.{exposedBy}
 use Rattle.report.specs.Lines.{isAct, orderLine, exposedAfter, orderLines}
 use Rattle.report.proofs.Rows.{entry-at}

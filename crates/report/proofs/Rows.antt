@@ -14,7 +14,11 @@ use Rattle.plan.specs.Reading.{exposure, request, coverMove}
 use Rattle.layout.specs.Written.{Written}
 use Rattle.layout.specs.Template.{layout}
 use Rattle.report.specs.Acts.{exposureText, coverText, requestTemplate, entryText, exposedBy}
-use Rattle.report.specs.Read.{rowAt, rowSettings, rowEntry, entriesIn}
+use Rattle.report.specs.Read.{rowSettings, rowEntry, entriesIn}
+
+-- the kth row
+unfoldable pub rowAt : List ℕ → ℕ → List ℕ
+rowAt rows k = take 21 (drop (21 * k) rows)
 
 module _ (row : List ℕ) where
   is-exposure : getD row 0 0 ≡ 1 → rowEntry row ≡ exposure (rowSettings row)

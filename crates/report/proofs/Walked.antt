@@ -20,7 +20,7 @@ use Rattle.schedule.proofs.OrderLaid.{fit-few}
 use Rattle.layout.specs.Numbers.{bit}
 use Rattle.layout.specs.Written.{Written}
 use Rattle.layout.proofs.Writing.{Partly, partly-first, partly-next, partly-done}
-use Rattle.report.specs.Read.{rowAt, rowEntry, entriesIn}
+use Rattle.report.specs.Read.{rowEntry, entriesIn}
 use Rattle.report.specs.Lines.{isAct, orderLine, exposedAfter, orderLines}
 use Rattle.report.proofs.Rows.{entry-at, part-row, part-long}
 

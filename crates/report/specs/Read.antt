@@ -1,15 +1,12 @@
 -- A record of acts read back from its numbers: a row of 21 for each act, and one for the settings at the end (plan, Rows).
 -- Assumes nothing.
-use Prim.Native.Nat.{ℕ, zero, suc, _*_}
+use Prim.Native.Nat.{ℕ, zero, suc}
 use mathlib.Core.Bool.{cond}
 use mathlib.Core.List.{List, [], _∷_}
 use lib.Dec.{eqb}
 use lib.ListN.{getD, take, drop}
 use Rattle.head.specs.declared.state.Settings.{Settings}
 use Rattle.plan.specs.Reading.{Entry, exposure, request, coverMove}
-
-unfoldable pub rowAt : List ℕ → ℕ → List ℕ
-rowAt rows k = take 21 (drop (21 * k) rows)
 
 -- The twenty registers after the first number.
 abbrev pub rowSettings : List ℕ → Settings
