@@ -5,3 +5,6 @@ pub mod Ways
 pub mod Translation
 pub mod Writing
 pub mod Reading
+pub mod Refused
+pub mod Handing
+pub mod Listing

@@ -25,11 +25,11 @@ use Rattle.head.specs.Row.{stateOf}
 use Rattle.interface.specs.State.{wellFormed}
 use Rattle.interface.specs.Plans.{translatedOf, countIn, lastIn, packed, translatedAnswer, Small}
 
-differ : {A : Type 0} → _≡_ {A = ℕ} 0 1 → A
+pub differ : {A : Type 0} → _≡_ {A = ℕ} 0 1 → A
 differ z = absurd (omega arith)
 
 -- a refusal's place is a place of the plan
-before-refused : (o : Order) (r : Plan) (n p : ℕ) → before o r ≡ refused n p → r ≡ refused n p
+pub before-refused : (o : Order) (r : Plan) (n p : ℕ) → before o r ≡ refused n p → r ≡ refused n p
 before-refused o (orders os) n p e = differ (cc)
 before-refused o (refused m q) n p e = e
 
@@ -51,7 +51,7 @@ place-within (suc k) bs at n p =
     go later false q f r e = differ (cc)
 
 module _ (bs : List ℕ) (high : byteAt bs 1 < 256) (low : byteAt bs 2 < 256) where
-  place-small : (n p : ℕ) → planOf bs ≡ refused n p → p < 2 ^ 32
+  pub place-small : (n p : ℕ) → planOf bs ≡ refused n p → p < 2 ^ 32
   unfolding planOf headerFault
   place-small n p = go (ltb (length bs) 3) (eqb (byteAt bs 0) 1) (eqb (length bs) (3 + pairAt bs 1)) refl
     where

@@ -3,6 +3,7 @@
 pub mod answers;
 pub mod readings;
 pub mod state;
+pub mod texts;
 
 use blocks::ccd::CCD_READINGS;
 use blocks::ccd::CCD_WORDS;
@@ -33,6 +34,7 @@ ghost use Rattle.head.specs.Row.{stateOf};
 ghost use Rattle.interface.specs.Plans.{translatedOf, translatedAnswer};
 ghost use Rattle.interface.specs.Stepping.{powerOnAnswer, powerOnState, rangeAnswer, wordAnswer, wordState, tickAnswer, tickState, listAnswer, listState, listOutcomes};
 ghost use Rattle.interface.specs.Codec.{decodedAnswer, encodedAnswer};
+ghost use Rattle.interface.specs.Texts.{listingAnswer, listingAfter};
 
 // Writes the power-on state.
 #[no_mangle]
@@ -242,4 +244,16 @@ pub extern "C" fn shabgozim_read_ccd(block: &[u16], numbers: &mut [u16]) -> u32
         }
         CcdAnswer::Refused(refusal) => answers::refused_number(refusal),
     }
+}
+
+// Writes the listing of a stored plan for the head in this state.
+#[no_mangle]
+pub extern "C" fn shabgozim_listing(state: &[u16], plan: &[u8], text: &mut [u8]) -> u64
+    ensures { λ r. ⌜ r ≡ listingAnswer (now (state .entry)) (now (plan .entry)) (now (text .entry)) ⌝ }
+    ensures { λ _. ⌜ now (text .exit) ≡ listingAfter (now (state .entry)) (now (plan .entry)) (now (text .entry)) ⌝ }
+{
+    if !state::well_formed(state) {
+        return STATE_UNFIT as u64;
+    }
+    texts::put_listing(state::load(state), plan, text)
 }

@@ -31,7 +31,7 @@ front-is text old {k} long {new} is =
     }
 
 -- a listing that is done stands at the front
-listed-front : (s : Head) (bs : List ℕ) {k : ℕ} → Listed.Done k ≡ listedOf s bs → (old : List ℕ) → Front old (planText s bs) k (listedAfter s bs old)
+pub listed-front : (s : Head) (bs : List ℕ) {k : ℕ} → Listed.Done k ≡ listedOf s bs → (old : List ℕ) → Front old (planText s bs) k (listedAfter s bs old)
 unfolding listedOf listedBy listedAfter filled
 listed-front s bs {k} is old = go (translateOf s bs mostWords mostWords) refl
   where

@@ -1,0 +1,40 @@
+-- `interface::shabgozim_listing` meets its contract.
+-- Assumes nothing.
+use Rattle.interface.proofs.Ways.{long}
+use Rattle.interface.proofs.Listing.{listing-ill, listing-ill-left, listing-answer, listing-after}
+use borrow.Author.Needs.{needs}
+use Rattle.interface.proofs.shabgozim_listing.Statement.{statement}
+use Rattle.interface.proofs.shabgozim_listing.Tie as tie
+
+well-formed-requires : tie.Need-well-formed-requires
+well-formed-requires c κs = search needs
+
+cast-result : tie.Need-cast-result
+cast-result c = search needs
+
+returns : tie.Need-returns
+returns c = search (needs, listing-ill, listing-ill-left)
+
+load-requires : tie.Need-load-requires
+load-requires c κs = search (needs, long)
+
+put-listing-requires : tie.Need-put-listing-requires
+put-listing-requires c κs = search needs
+
+same-length : tie.Need-same-length
+same-length c = search needs
+
+returns-2 : tie.Need-returns-2
+returns-2 c = search (needs, listing-answer, listing-after)
+
+pub shabgozim-listing-spec : {M : Type 1} → statement M
+shabgozim-listing-spec =
+    tie.close
+    (tie.spec
+    well-formed-requires
+    cast-result
+    returns
+    load-requires
+    put-listing-requires
+    same-length
+    returns-2)
