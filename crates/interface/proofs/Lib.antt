@@ -8,3 +8,5 @@ pub mod Reading
 pub mod Refused
 pub mod Handing
 pub mod Listing
+pub mod Reporting
+pub mod Wording

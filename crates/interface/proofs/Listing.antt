@@ -5,12 +5,11 @@ use mathlib.Core.Bool.{Bool, true, false, not}
 use mathlib.Core.List.{List}
 use Prim.Native.Nat.{ℕ, _≤_, _<_, _^_}
 use native.Mathlib.Omega.{arith}
-use borrow.Author.Tests.{not-true, not-false}
 use lib.Dec.{eqb}
 use lib.ListN.{length, take}
 use mir.Syntax.{w8}
 use mir.Val.{Fits}
-use Rattle.head.specs.Row.{stateOf}
+use Rattle.head.specs.Row.{places, stateOf}
 use Rattle.head.specs.declared.state.Head.{Head}
 use Rattle.plan.specs.Stored.{byteAt}
 use Rattle.schedule.specs.Translate.{mostWords, translateOf, translationNumber, translationPlace}
@@ -23,10 +22,10 @@ use Rattle.text.proofs.Fitting.{listing-fits}
 use Rattle.text.proofs.Printed.{listed-front}
 use Rattle.interface.specs.State.{wellFormed}
 use Rattle.interface.specs.Plans.{packed}
-use Rattle.interface.specs.Texts.{hasRoom, textAfter, roomAnswer, textAnswer, isPut, numberFor, placeFor, listingAnswer, listingAfter}
+use Rattle.interface.specs.Texts.{hasRoom, textAfter, roomAnswer, textAnswer, isPut, numberFor, placeFor, listingAnswer, listingLeft}
 use Rattle.interface.proofs.Translation.{differ}
 use Rattle.interface.proofs.Refused.{translate-nonzero, translation-small, translate-fit}
-use Rattle.interface.proofs.Handing.{front-room, front-count, front-small, front-answer, front-after, refused-answer, refused-left}
+use Rattle.interface.proofs.Handing.{well-number, well-place, ill-number, ill-place, front-room, front-count, front-small, front-answer, front-after, refused-answer, refused-left}
 
 -- what a listing that is done says: no refusal, and the text at the front of the array m
 record Made (s : Head) (bs : List ℕ) (n : ℕ) (m made : List ℕ) : Type 0 where
@@ -59,52 +58,52 @@ module _ (s : Head) (bs : List ℕ) {r : Listed} (is : r ≡ listedOf s bs) wher
     pub listed-small : length (take n made) < 2 ^ 32
     listed-small = front-small (made-is .front) (made-is .small)
 
-    module _ (old : List ℕ) where
-      pub listed-answer : {x : ℕ} → x ≡ roomAnswer (take n made) old
-          → x ≡ textAnswer (translationNumber s bs mostWords mostWords) (translationPlace s bs) (planText s bs) old
-      listed-answer e = front-answer (made-is .front) (made-is .none) old (translationPlace s bs) e
+    -- the array l holds the head
+    module _ (l : List ℕ) (long : length l ≡ places) (loaded : s ≡ stateOf l) (old : List ℕ) where
+      none : numberFor l s bs ≡ 0
+      none = well-number l long s bs ∙ made-is .none
 
-      pub listed-after : {new : List ℕ} → new ≡ textAfter (hasRoom (take n made) old) (take n made) old
-          → new ≡ textAfter (isPut (translationNumber s bs mostWords mostWords) (planText s bs) old) (planText s bs) old
-      listed-after e = front-after (made-is .front) (made-is .none) old e
+      pub listed-answer : {x : ℕ} → x ≡ roomAnswer (take n made) old → x ≡ listingAnswer l bs old
+      unfolding listingAnswer
+      listed-answer e = rw (← loaded) (front-answer (made-is .front) none old (placeFor l s bs) e)
+
+      pub listed-left : {new : List ℕ} → new ≡ textAfter (hasRoom (take n made) old) (take n made) old → new ≡ listingLeft l bs old
+      unfolding listingLeft
+      listed-left e = rw (← loaded) (front-after (made-is .front) none old e)
 
   module _ {n p : ℕ} (refusal : r ≡ Listed.Refused n p) where
     pub unlisted-small : listingPlace r ≡ translationPlace s bs → ((k : ℕ) → Fits w8 (byteAt bs k)) → p < 2 ^ 32
     unlisted-small place bytes = let e : p ≡ translationPlace s bs = rw refusal at place in rw e (translation-small s bs bytes)
 
-    module _ (number : listingNumber r ≡ translationNumber s bs mostWords mostWords) where
-      some : eqb (translationNumber s bs mostWords mostWords) 0 ≡ false
+    module _ (number : listingNumber r ≡ translationNumber s bs mostWords mostWords) (l : List ℕ) (long : length l ≡ places) (loaded : s ≡ stateOf l) (old : List ℕ) where
+      number-is : n ≡ numberFor l s bs
+      number-is = rw (well-number l long s bs, ← number, refusal)
+
+      some : eqb (numberFor l s bs) 0 ≡ false
       unfolding listedOf listedBy
-      some = rw (← number, refusal) (go (translateOf s bs mostWords mostWords) refl (sym refusal ∙ is))
+      some = rw (← number-is) (go (translateOf s bs mostWords mostWords) refl (sym refusal ∙ is))
         where
           go : (t : Translated) → translateOf s bs mostWords mostWords ≡ t → Listed.Refused n p ≡ listedBy t (length (planText s bs)) → eqb n 0 ≡ false
           go (Translated.Done k e) h same = differ (cc same)
           go (Translated.Refused k q) h same = let e : k ≡ n = cc same in rw e at (translate-nonzero s bs k q h)
           go (Translated.Short k) h same = let e : 10 ≡ n = cc same in rw (← e)
 
-      pub unlisted-left : (old : List ℕ) → old ≡ textAfter (isPut (translationNumber s bs mostWords mostWords) (planText s bs) old) (planText s bs) old
-      unlisted-left old = refused-left (translationNumber s bs mostWords mostWords) some (planText s bs) old
+      pub unlisted-left : old ≡ listingLeft l bs old
+      unfolding listingLeft
+      unlisted-left = rw (← loaded) (refused-left (numberFor l s bs) some (planText s bs) old)
 
-      pub unlisted-answer : listingPlace r ≡ translationPlace s bs → (old : List ℕ) {x : ℕ} → x ≡ packed n 0 p
-          → x ≡ textAnswer (translationNumber s bs mostWords mostWords) (translationPlace s bs) (planText s bs) old
-      unlisted-answer place old e = refused-answer (translationNumber s bs mostWords mostWords) some (planText s bs) old (translationPlace s bs) (e ∙ rw (← number, ← place, refusal))
+      pub unlisted-answer : listingPlace r ≡ translationPlace s bs → {x : ℕ} → x ≡ packed n 0 p → x ≡ listingAnswer l bs old
+      unfolding listingAnswer
+      unlisted-answer place e =
+          let place-is : p ≡ placeFor l s bs = rw (well-place l long s bs, ← place, refusal) in
+          rw (← loaded) (refused-answer (numberFor l s bs) some (planText s bs) old (placeFor l s bs) (e ∙ rw (← number-is, ← place-is)))
 
--- the exported function: l is the state's array, i what `well_formed` answered
-module _ (l bs old : List ℕ) {i : Bool} (is : i ≡ wellFormed l) where
-  module _ (bad : not i ≡ true) where
-    pub listing-ill : 1 ≡ listingAnswer l bs old
-    unfolding listingAnswer numberFor placeFor textAnswer
-    listing-ill = rw (sym is ∙ not-true i bad)
+-- an array that is no state: i is what `well_formed` answered
+module _ (l bs old : List ℕ) {i : Bool} (is : i ≡ wellFormed l) (bad : not i ≡ true) where
+  pub listing-ill : 1 ≡ listingAnswer l bs old
+  unfolding listingAnswer textAnswer
+  listing-ill = rw (ill-number l is bad (stateOf l) bs, ill-place l is bad (stateOf l) bs)
 
-    pub listing-ill-left : old ≡ listingAfter l bs old
-    unfolding listingAfter numberFor isPut textAfter
-    listing-ill-left = rw (sym is ∙ not-true i bad)
-
-  module _ (good : not i ≡ false) {s : Head} (loaded : s ≡ stateOf l) where
-    pub listing-answer : {r : ℕ} → r ≡ textAnswer (translationNumber s bs mostWords mostWords) (translationPlace s bs) (planText s bs) old → r ≡ listingAnswer l bs old
-    unfolding listingAnswer numberFor placeFor
-    listing-answer e = rw (sym is ∙ not-false i good, ← loaded) e
-
-    pub listing-after : {new : List ℕ} → new ≡ textAfter (isPut (translationNumber s bs mostWords mostWords) (planText s bs) old) (planText s bs) old → new ≡ listingAfter l bs old
-    unfolding listingAfter numberFor
-    listing-after e = rw (sym is ∙ not-false i good, ← loaded) e
+  pub listing-ill-left : old ≡ listingLeft l bs old
+  unfolding listingLeft isPut textAfter
+  listing-ill-left = rw (ill-number l is bad (stateOf l) bs)

@@ -1,4 +1,4 @@
--- What is known of a plan that is refused: its number is not 0, and its place fits 32 bits.
+-- What an answer of translation says: a refusal's number is not 0 and its place fits 32 bits, and a head whose plan is done was fit.
 -- Assumes nothing.
 use mathlib.Core.Path.{_≡_, refl}
 use mathlib.Core.Bool.{Bool, true, false, cond, _&&_}

@@ -6,10 +6,14 @@ use mathlib.Core.Bool.{Bool, cond, _&&_}
 use mathlib.Core.List.{List, _++_}
 use lib.Dec.{eqb, leb}
 use lib.ListN.{length, drop}
-use Rattle.head.specs.Row.{stateOf}
+use Rattle.head.specs.Row.{numbersOf, stateOf}
 use Rattle.head.specs.declared.state.Head.{Head}
-use Rattle.schedule.specs.Translate.{mostWords, translationNumber, translationPlace}
+use Rattle.plan.specs.Stored.{planOf}
+use Rattle.schedule.specs.Translate.{mostWords, scheduleOf, translationNumber, translationPlace}
+use Rattle.run.specs.Run.{headAfter}
 use Rattle.text.specs.Listing.{planText}
+use Rattle.report.specs.Refusal.{refusalText}
+use Rattle.report.specs.Report.{rested, reportText}
 use Rattle.interface.specs.State.{wellFormed}
 use Rattle.interface.specs.Plans.{packed}
 
@@ -44,7 +48,44 @@ unfoldable pub listingAnswer : List ℕ → List ℕ → List ℕ → ℕ
 listingAnswer l bs old =
     textAnswer (numberFor l (stateOf l) bs) (placeFor l (stateOf l) bs) (planText (stateOf l) bs) old
 
-unfoldable pub listingAfter : List ℕ → List ℕ → List ℕ → List ℕ
-listingAfter l bs old =
+unfoldable pub listingLeft : List ℕ → List ℕ → List ℕ → List ℕ
+listingLeft l bs old =
     let text = planText (stateOf l) bs in
     textAfter (isPut (numberFor l (stateOf l) bs) text old) text old
+
+-- The report starts from the same head once it is idle and nothing moves.
+unfoldable pub reportNumber : List ℕ → List ℕ → ℕ
+reportNumber l bs = numberFor l (rested (stateOf l)) bs
+
+unfoldable pub reportAnswer : List ℕ → List ℕ → List ℕ → ℕ
+reportAnswer l bs old =
+    textAnswer (reportNumber l bs) (placeFor l (rested (stateOf l)) bs) (reportText (stateOf l) bs) old
+
+unfoldable pub reportLeft : List ℕ → List ℕ → List ℕ → List ℕ
+reportLeft l bs old =
+    let text = reportText (stateOf l) bs in
+    textAfter (isPut (reportNumber l bs) text old) text old
+
+-- The head at the plan's end.
+unfoldable pub planEnd : Head → List ℕ → Head
+planEnd s bs = let sch = scheduleOf s (planOf bs) in headAfter (sch .end) 0 (sch .list) s
+
+-- A text that is not written leaves the array as it was.
+unfoldable pub reportState : List ℕ → List ℕ → List ℕ → List ℕ
+reportState l bs old =
+    cond (isPut (reportNumber l bs) (reportText (stateOf l) bs) old) (numbersOf (planEnd (rested (stateOf l)) bs)) l
+
+-- A refusal has a number of 1-10; no other has words.
+unfoldable pub isRefusal : ℕ → Bool
+isRefusal number = leb 1 number && leb number 10
+
+-- The length of the words, 0 where nothing is written.
+unfoldable pub refusalLength : ℕ → ℕ → List ℕ → List ℕ → ℕ
+refusalLength number place bs old =
+    let text = refusalText number place bs in
+    cond (isRefusal number && hasRoom text old) (length text) 0
+
+unfoldable pub refusalLeft : ℕ → ℕ → List ℕ → List ℕ → List ℕ
+refusalLeft number place bs old =
+    let text = refusalText number place bs in
+    textAfter (isRefusal number && hasRoom text old) text old

@@ -1,7 +1,7 @@
 -- `interface::shabgozim_listing` meets its contract.
 -- Assumes nothing.
 use Rattle.interface.proofs.Ways.{long}
-use Rattle.interface.proofs.Listing.{listing-ill, listing-ill-left, listing-answer, listing-after}
+use Rattle.interface.proofs.Listing.{listing-ill, listing-ill-left}
 use borrow.Author.Needs.{needs}
 use Rattle.interface.proofs.shabgozim_listing.Statement.{statement}
 use Rattle.interface.proofs.shabgozim_listing.Tie as tie
@@ -15,26 +15,16 @@ cast-result c = search needs
 returns : tie.Need-returns
 returns c = search (needs, listing-ill, listing-ill-left)
 
-load-requires : tie.Need-load-requires
-load-requires c κs = search (needs, long)
-
 put-listing-requires : tie.Need-put-listing-requires
-put-listing-requires c κs = search needs
+put-listing-requires c κs = search (needs, long)
 
 same-length : tie.Need-same-length
 same-length c = search needs
 
 returns-2 : tie.Need-returns-2
-returns-2 c = search (needs, listing-answer, listing-after)
+returns-2 c = search needs
 
 pub shabgozim-listing-spec : {M : Type 1} → statement M
 shabgozim-listing-spec =
     tie.close
-    (tie.spec
-    well-formed-requires
-    cast-result
-    returns
-    load-requires
-    put-listing-requires
-    same-length
-    returns-2)
+    (tie.spec well-formed-requires cast-result returns put-listing-requires same-length returns-2)

@@ -1,9 +1,12 @@
 -- `interface::texts::put_listing` meets its contract.
 -- Assumes nothing.
-use Rattle.interface.proofs.Listing.{listed-room, listed-count, listed-small, listed-answer, listed-after, unlisted-small, unlisted-left, unlisted-answer}
+use Rattle.interface.proofs.Listing.{listed-room, listed-count, listed-small, listed-answer, listed-left, unlisted-small, unlisted-left, unlisted-answer}
 use borrow.Author.Needs.{needs}
 use Rattle.interface.proofs.texts.put_listing.Statement.{statement}
 use Rattle.interface.proofs.texts.put_listing.Tie as tie
+
+load-requires : tie.Need-load-requires
+load-requires c κs = search needs
 
 list-plan-requires : tie.Need-list-plan-requires
 list-plan-requires c κs = search needs
@@ -30,7 +33,7 @@ same-length : tie.Need-same-length
 same-length c = search needs
 
 returns : tie.Need-returns
-returns c = search (needs, listed-answer, listed-after)
+returns c = search (needs, listed-answer, listed-left)
 
 returns-2 : tie.Need-returns-2
 returns-2 c = search (needs, unlisted-answer, unlisted-left)
@@ -39,6 +42,7 @@ pub put-listing-spec : {M : Type 1} → statement M
 put-listing-spec =
     tie.close
     (tie.spec
+    load-requires
     list-plan-requires
     enum-known-listed
     array-share-prefix-made
