@@ -27,6 +27,30 @@ extern "C" {
         ticks: *mut u32,
         ticks_len: usize,
     ) -> u64;
+    pub fn shabgozim_listing(
+        state: *const u16,
+        state_len: usize,
+        plan: *const u8,
+        plan_len: usize,
+        text: *mut u8,
+        text_len: usize,
+    ) -> u64;
+    pub fn shabgozim_report(
+        state: *mut u16,
+        state_len: usize,
+        plan: *const u8,
+        plan_len: usize,
+        text: *mut u8,
+        text_len: usize,
+    ) -> u64;
+    pub fn shabgozim_refusal(
+        number: u8,
+        place: u32,
+        plan: *const u8,
+        plan_len: usize,
+        text: *mut u8,
+        text_len: usize,
+    ) -> u32;
     pub fn shabgozim_write_ir(
         state: *const u16,
         state_len: usize,

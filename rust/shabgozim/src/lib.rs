@@ -7,6 +7,7 @@
 //! | [`State`], [`place`] | a head's state, and what it makes of words and ticks |
 //! | [`State::list`], [`ListRefusal`] | a list of timed words in one call |
 //! | [`schedule`], [`translate`] | a stored plan turned into timed words |
+//! | [`listing`], [`State::report`], [`PlanRefusal::in_words`] | a plan listed, its simulation reported, a refusal in words |
 //! | [`write_ir`], [`read_ir`], [`write_ccd`], [`read_ccd`] | the two housekeeping blocks |
 //! | [`raw`] | the same functions over slices, answers still packed |
 //!
@@ -51,12 +52,14 @@ mod list;
 mod plan;
 pub mod raw;
 mod state;
+mod text;
 mod words;
 
 pub use blocks::*;
 pub use list::*;
 pub use plan::*;
 pub use state::*;
+pub use text::*;
 pub use words::*;
 
 /// The example in the README.

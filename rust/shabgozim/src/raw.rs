@@ -80,6 +80,55 @@ pub fn translate(state: &[u16], plan: &[u8], words: &mut [u16], ticks: &mut [u32
     }
 }
 
+/// Writes a plan's listing. Bits 0 to 7: number (0, 1 to 9 as [`translate`], or
+/// 10 where `text` has fewer than 8,192 places); 32 to 63: the text's length, or
+/// the place of a refusal.
+pub fn listing(state: &[u16], plan: &[u8], text: &mut [u8]) -> u64 {
+    // SAFETY: as above, for three slices.
+    unsafe {
+        ffi::shabgozim_listing(
+            state.as_ptr(),
+            state.len(),
+            plan.as_ptr(),
+            plan.len(),
+            text.as_mut_ptr(),
+            text.len(),
+        )
+    }
+}
+
+/// Writes the report of a plan and advances the state to its end. The answer is
+/// as [`listing`]'s, with 10 where `text` has fewer than 65,536 places.
+pub fn report(state: &mut [u16], plan: &[u8], text: &mut [u8]) -> u64 {
+    // SAFETY: as above, for three slices.
+    unsafe {
+        ffi::shabgozim_report(
+            state.as_mut_ptr(),
+            state.len(),
+            plan.as_ptr(),
+            plan.len(),
+            text.as_mut_ptr(),
+            text.len(),
+        )
+    }
+}
+
+/// Writes a refusal in words, with a newline: the text's length, or 0 where
+/// `number` is none of 1 to 10 or `text` has fewer than 256 places.
+pub fn refusal(number: u8, place: u32, plan: &[u8], text: &mut [u8]) -> u32 {
+    // SAFETY: as above, for two slices.
+    unsafe {
+        ffi::shabgozim_refusal(
+            number,
+            place,
+            plan.as_ptr(),
+            plan.len(),
+            text.as_mut_ptr(),
+            text.len(),
+        )
+    }
+}
+
 /// Writes the IR block: 0, 11 or 21.
 pub fn write_ir(
     state: &[u16],
