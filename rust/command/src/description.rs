@@ -1,0 +1,115 @@
+//! The program described once, as data. The arguments are read by it, and help
+//! and manual page are made from it.
+
+use crate::failure::{DONE, FAILED, REFUSED};
+use crate::{help, man};
+use shabgozim::{listing, PlanRefusal, State, MOST_PLAN_BYTES};
+use std::ffi::c_int;
+
+pub const NAME: &str = "shabgozim";
+
+pub const SUMMARY: &str =
+    "lists plans for the VIRTIS-M instrument head, and reports what the head does with them";
+
+pub struct Subcommand {
+    pub name: &'static str,
+    /// The names in the synopsis.
+    pub operands: &'static str,
+    pub most_names: usize,
+    /// The text of a plan for a head.
+    pub text: fn(&mut State, &[u8]) -> Result<String, PlanRefusal>,
+    pub says: &'static str,
+}
+
+pub const SUBCOMMANDS: &[Subcommand] = &[
+    Subcommand {
+        name: "list",
+        operands: "[PLAN]",
+        most_names: 1,
+        text: |head, plan| listing(head, plan),
+        says: "Prints the words of a plan for a head at power-on, each with its tick, and the end.",
+    },
+    Subcommand {
+        name: "report",
+        operands: "[PLAN...]",
+        most_names: usize::MAX,
+        text: State::report,
+        says: "Prints what a head does with a plan. The first plan begins at power-on. Each \
+               further one begins with the head as the plan before it left it, after the ticks \
+               until it is idle and at rest. A plan that is refused or cannot be read is the \
+               last one; the reports before it are printed.",
+    },
+];
+
+/// An option prints a text about the program.
+pub struct ShowOption {
+    pub names: &'static [&'static str],
+    pub text: fn() -> String,
+    pub says: &'static str,
+}
+
+pub const OPTIONS: &[ShowOption] = &[
+    ShowOption {
+        names: &["-h", "--help"],
+        text: help::page,
+        says: "Prints this description as plain text.",
+    },
+    ShowOption {
+        names: &["-V", "--version"],
+        text: version,
+        says: "Prints the program's name and version.",
+    },
+    ShowOption {
+        names: &["--man"],
+        text: man::page,
+        says: "Prints this description as a manual page, in roff.",
+    },
+];
+
+/// What `--` does.
+pub const END_OF_OPTIONS: &str =
+    "Ends the options: every argument after it is a subcommand or a name, also one that begins \
+     with -.";
+
+pub const STATUSES: &[(c_int, &str)] = &[
+    (DONE, "Everything was printed."),
+    (REFUSED, "A plan was refused."),
+    (
+        FAILED,
+        "A plan could not be read, the output could not be written, or an argument is wrong.",
+    ),
+];
+
+pub const EXAMPLES: &[(&str, &str)] = &[
+    ("shabgozim list noon.plan", "Lists a plan."),
+    (
+        "shabgozim list noon.plan > noon.list && lp noon.list",
+        "Puts the listing on paper, but only where the plan is accepted.",
+    ),
+    (
+        "shabgozim report dawn.plan noon.plan",
+        "Reports two plans on one head, one after the other.",
+    ),
+    (
+        r"printf '\001\000\002\001\020' | shabgozim list",
+        "Lists a plan of one housekeeping request.",
+    ),
+];
+
+/// The paragraphs about the program as a whole.
+pub fn about() -> Vec<String> {
+    let input = format!(
+        "A PLAN is the name of a file that has a stored plan. Without a name, and for the name -, \
+         the plan is read from standard input. An input of more than {MOST_PLAN_BYTES} bytes is \
+         refused."
+    );
+    let output = "What is printed is the verified library's text. Nothing is printed for a \
+                  refused plan: the refusal is told on standard error, with its number and \
+                  place. All output is written at the end, when it is complete.";
+    vec![input, output.into()]
+}
+
+/// Name and version.
+pub fn version() -> String {
+    format!("{NAME} {}\n", env!("CARGO_PKG_VERSION"))
+}

@@ -1,0 +1,54 @@
+//! `shabgozim`: lists plans, and reports what the head does with them.
+//!
+//! | module | idea |
+//! |---|---|
+//! | `description` | subcommands, options, statuses and examples, as data |
+//! | `sections`, `help`, `man` | the description in sections, as plain text, and as a manual page |
+//! | `arguments` | what is asked for |
+//! | `source` | where a plan comes from, and its bytes |
+//! | `texts` | the texts of plans, one after another |
+//! | `failure` | why something was not done, told on standard error |
+//! | `descriptors` | standard input, output and error, as they were given |
+
+#![no_main]
+
+mod arguments;
+mod description;
+mod descriptors;
+mod failure;
+mod help;
+mod man;
+mod sections;
+mod source;
+mod texts;
+
+use arguments::Request;
+use descriptors::Descriptors;
+use failure::{Failure, DONE};
+use std::env;
+use std::ffi::{c_char, c_int};
+use texts::Texts;
+
+/// Where the C library begins the program; `descriptors` says why this is not
+/// Rust's `main`. On Linux with glibc std knows the arguments all the same.
+#[no_mangle]
+pub extern "C" fn main(_count: c_int, _arguments: *const *const c_char) -> c_int {
+    run().unwrap_or_else(Failure::tell)
+}
+
+/// The exit status, or why nothing was printed.
+fn run() -> Result<c_int, Failure> {
+    let descriptors = Descriptors::take()?;
+    let done = match arguments::read(env::args_os().skip(1))? {
+        Request::Show(text) => Texts::of(text()),
+        Request::Texts(subcommand, sources) => texts::of_all(subcommand, &sources, &descriptors),
+    };
+    Ok(finish(done, descriptors))
+}
+
+/// Prints what is complete and tells what failed; gives the exit status.
+fn finish(done: Texts, descriptors: Descriptors) -> c_int {
+    let printed = descriptors.print(&done.text);
+    let failures = [printed.err(), done.failure].into_iter().flatten();
+    failures.map(Failure::tell).max().unwrap_or(DONE)
+}

@@ -1,0 +1,129 @@
+//! Standard input, output and error that are closed, full or without a reader.
+
+use crate::run::*;
+use std::fs;
+use std::io;
+use std::process::{Command, Stdio};
+
+const INPUT_CLOSED: &str = "shabgozim: standard input: Bad file descriptor\n";
+const OUTPUT_CLOSED: &str = "shabgozim: standard output: Bad file descriptor\n";
+const OUTPUT_FULL: &str = "shabgozim: standard output: No space left on device\n";
+
+fn folder() -> Folder {
+    Folder::new()
+        .with("good.plan", GOOD)
+        .with("bad.plan", TOO_SHORT)
+}
+
+#[test]
+fn a_closed_input() {
+    let folder = folder();
+    for subcommand in ["list", "list -", "report", "report -"] {
+        let script = format!("\"$0\" {subcommand} <&-");
+        expect(folder.shell(&script), 2, "", INPUT_CLOSED);
+    }
+    let after_another = folder.shell("\"$0\" report good.plan - <&-");
+    expect(after_another, 2, &reports(&[GOOD]), INPUT_CLOSED);
+    // Where it is not read, it may be closed.
+    expect(folder.shell("\"$0\" list good.plan <&-"), 0, LISTED, "");
+    // An input that is open for writing alone cannot be read either.
+    expect(folder.shell("\"$0\" list 0>&1"), 2, "", INPUT_CLOSED);
+}
+
+#[test]
+fn a_closed_output() {
+    let folder = folder();
+    for arguments in [
+        "list good.plan",
+        "report good.plan",
+        "--help",
+        "--man",
+        "-V",
+    ] {
+        let script = format!("\"$0\" {arguments} >&-");
+        expect(folder.shell(&script), 2, "", OUTPUT_CLOSED);
+        // Nor can one be written that is open for reading alone.
+        let script = format!("\"$0\" {arguments} 1</dev/null");
+        expect(folder.shell(&script), 2, "", OUTPUT_CLOSED);
+    }
+    // That is found before a plan is opened.
+    for name in ["bad.plan", "none"] {
+        let script = format!("\"$0\" list {name} >&-");
+        expect(folder.shell(&script), 2, "", OUTPUT_CLOSED);
+    }
+    let both = folder.shell("\"$0\" list good.plan <&- >&-");
+    expect(both, 2, "", OUTPUT_CLOSED);
+    let all = folder.shell("\"$0\" list good.plan <&- >&- 2>&-");
+    expect(all, 2, "", "");
+    let plan = fs::read(folder.path("good.plan")).expect("the plan is there");
+    assert_eq!(plan, GOOD);
+}
+
+#[test]
+fn a_closed_error() {
+    let folder = folder();
+    expect(folder.shell("\"$0\" list good.plan 2>&-"), 0, LISTED, "");
+    expect(folder.shell("\"$0\" list bad.plan 2>&-"), 1, "", "");
+    expect(folder.shell("\"$0\" list none 2>&-"), 2, "", "");
+    expect(folder.shell("\"$0\" --none 2>&-"), 2, "", "");
+    expect(folder.shell("\"$0\" list bad.plan <&- 2>&-"), 1, "", "");
+    expect(folder.shell("\"$0\" list <&- 2>&-"), 2, "", "");
+}
+
+#[test]
+fn a_full_output() {
+    let folder = folder();
+    for arguments in [
+        "list good.plan",
+        "report good.plan",
+        "--help",
+        "--man",
+        "-V",
+    ] {
+        let script = format!("\"$0\" {arguments} >/dev/full");
+        expect(folder.shell(&script), 2, "", OUTPUT_FULL);
+    }
+    // Nothing is written for a refused plan.
+    let told = refusal("bad.plan", TOO_SHORT);
+    let refused = folder.shell("\"$0\" list bad.plan >/dev/full");
+    expect(refused, 1, "", &told);
+    let both = folder.shell("\"$0\" report good.plan bad.plan >/dev/full");
+    expect(both, 2, "", &(OUTPUT_FULL.to_owned() + &told));
+}
+
+#[test]
+fn a_full_error() {
+    let folder = folder();
+    expect(folder.shell("\"$0\" list bad.plan 2>/dev/full"), 1, "", "");
+    expect(folder.shell("\"$0\" --none 2>/dev/full"), 2, "", "");
+}
+
+#[test]
+fn an_output_of_limited_length() {
+    let folder = folder();
+    let told = "shabgozim: standard output: File too large\n";
+    let ran = folder.shell("ulimit -f 0; \"$0\" list good.plan > list");
+    expect(ran, 2, "", told);
+}
+
+#[test]
+fn a_pipe_without_a_reader() {
+    let folder = folder();
+    for arguments in [
+        &["list", "good.plan"][..],
+        &["report", "good.plan"],
+        &["-h"],
+    ] {
+        let (reader, writer) = io::pipe().expect("a pipe can be made");
+        drop(reader);
+        let ran = Command::new(PROGRAM)
+            .args(arguments)
+            .current_dir(folder.path("."))
+            .stdout(writer)
+            .stderr(Stdio::piped())
+            .output()
+            .expect("the program runs");
+        let told = "shabgozim: standard output: Broken pipe\n";
+        expect(ran, 2, "", told);
+    }
+}

@@ -1,0 +1,9 @@
+//! The program run as its users run it: exit status, standard output and
+//! standard error.
+
+mod descriptors;
+mod inputs;
+mod pages;
+mod plans;
+mod run;
+mod usage;
