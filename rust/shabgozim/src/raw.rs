@@ -81,8 +81,8 @@ pub fn translate(state: &[u16], plan: &[u8], words: &mut [u16], ticks: &mut [u32
 }
 
 /// Writes a plan's listing. Bits 0 to 7: number (0, 1 to 9 as [`translate`], or
-/// 10 where `text` has fewer than 8,192 places); 32 to 63: the text's length, or
-/// the place of a refusal.
+/// 10 where `text` is shorter); 32 to 63: the text's length for 0 and 10, else
+/// the place of the refusal.
 pub fn listing(state: &[u16], plan: &[u8], text: &mut [u8]) -> u64 {
     // SAFETY: as above, for three slices.
     unsafe {
@@ -98,7 +98,7 @@ pub fn listing(state: &[u16], plan: &[u8], text: &mut [u8]) -> u64 {
 }
 
 /// Writes the report of a plan and advances the state to its end. The answer is
-/// as [`listing`]'s, with 10 where `text` has fewer than 65,536 places.
+/// as [`listing`]'s.
 pub fn report(state: &mut [u16], plan: &[u8], text: &mut [u8]) -> u64 {
     // SAFETY: as above, for three slices.
     unsafe {
@@ -114,7 +114,7 @@ pub fn report(state: &mut [u16], plan: &[u8], text: &mut [u8]) -> u64 {
 }
 
 /// Writes a refusal in words, with a newline: the text's length, or 0 where
-/// `number` is none of 1 to 10 or `text` has fewer than 256 places.
+/// `number` is none of 1 to 10 or `text` is shorter.
 pub fn refusal(number: u8, place: u32, plan: &[u8], text: &mut [u8]) -> u32 {
     // SAFETY: as above, for two slices.
     unsafe {

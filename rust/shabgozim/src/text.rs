@@ -10,7 +10,7 @@ pub const LISTING_LENGTH: usize = 8192;
 /// Bytes that have room for every report.
 pub const REPORT_LENGTH: usize = 65536;
 /// Bytes that have room for every refusal in words.
-pub const REFUSAL_LENGTH: usize = 256;
+pub const REFUSAL_LENGTH: usize = 1024;
 /// The most bytes that the programs read as a plan.
 pub const MOST_PLAN_BYTES: usize = 4096;
 

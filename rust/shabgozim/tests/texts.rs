@@ -61,30 +61,40 @@ fn a_refused_listing_has_number_and_place() {
 #[test]
 fn a_listing_wants_its_room() {
     let head = State::power_on();
+    let length = (LISTED.len() as u64) << 32;
     let mut text = [0xAA; LISTING_LENGTH];
-    for short in [0, 1, LISTED.len(), LISTING_LENGTH - 1] {
+    for short in [0, 1, LISTED.len() - 1] {
         let answer = raw::listing(&head.numbers, &PLAN, &mut text[..short]);
-        assert_eq!(answer, 10, "{short} bytes");
+        assert_eq!(answer, length | 10, "{short} bytes");
         assert_eq!(text, [0xAA; LISTING_LENGTH], "{short} bytes");
     }
-    let answer = raw::listing(&head.numbers, &PLAN, &mut text);
-    assert_eq!(answer, (LISTED.len() as u64) << 32);
-    assert_eq!(&text[..LISTED.len()], LISTED.as_bytes());
+    for enough in [LISTED.len(), LISTING_LENGTH] {
+        text.fill(0xAA);
+        let answer = raw::listing(&head.numbers, &PLAN, &mut text[..enough]);
+        assert_eq!(answer, length, "{enough} bytes");
+        assert_eq!(&text[..LISTED.len()], LISTED.as_bytes());
+        assert!(text[LISTED.len()..].iter().all(|&byte| byte == 0xAA));
+    }
 }
 
 #[test]
 fn a_report_wants_its_room() {
+    let report = State::power_on().report(&PLAN).unwrap();
+    let length = (report.len() as u64) << 32;
     let mut head = State::power_on();
     let mut text = vec![0xAA; REPORT_LENGTH];
-    for short in [0, 1, REPORT_LENGTH - 1] {
+    for short in [0, 1, report.len() - 1] {
         let answer = raw::report(&mut head.numbers, &PLAN, &mut text[..short]);
-        assert_eq!(answer, 10, "{short} bytes");
+        assert_eq!(answer, length | 10, "{short} bytes");
         assert!(text.iter().all(|&byte| byte == 0xAA), "{short} bytes");
         assert_eq!(head, State::power_on(), "{short} bytes");
     }
-    let answer = raw::report(&mut head.numbers, &PLAN, &mut text);
-    assert_eq!(answer as u32, 0);
+    let room = &mut text[..report.len()];
+    let answer = raw::report(&mut head.numbers, &PLAN, room);
+    assert_eq!(answer, length);
+    assert_eq!(room, report.as_bytes());
     assert_ne!(head, State::power_on());
+    assert!(text[report.len()..].iter().all(|&byte| byte == 0xAA));
 }
 
 #[test]
@@ -196,13 +206,14 @@ fn any_place_and_plan_can_be_told() {
 #[test]
 fn a_refusal_wants_its_room() {
     let mut text = [0xAA; REFUSAL_LENGTH];
-    for short in [0, 1, REFUSAL_LENGTH - 1] {
+    let words = "refused 2: fewer than 3 bytes (byte 0)\n";
+    for short in [0, 1, words.len() - 1] {
         assert_eq!(raw::refusal(2, 0, &[], &mut text[..short]), 0);
     }
     assert_eq!(raw::refusal(0, 0, &[], &mut text), 0);
     assert_eq!(raw::refusal(11, 0, &[], &mut text), 0);
     assert_eq!(text, [0xAA; REFUSAL_LENGTH]);
-    let length = raw::refusal(2, 0, &[], &mut text) as usize;
-    assert_eq!(text[length - 1], b'\n');
+    let length = raw::refusal(2, 0, &[], &mut text[..words.len()]) as usize;
+    assert_eq!(&text[..length], words.as_bytes());
     assert!(text[length..].iter().all(|&byte| byte == 0xAA));
 }
