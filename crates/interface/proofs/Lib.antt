@@ -5,8 +5,4 @@ pub mod Ways
 pub mod Translation
 pub mod Writing
 pub mod Reading
-pub mod Refused
-pub mod Handing
-pub mod Listing
-pub mod Reporting
-pub mod Wording
+pub mod Arrays

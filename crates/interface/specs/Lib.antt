@@ -3,4 +3,3 @@ pub mod Stepping
 pub mod Codec
 pub mod Plans
 pub mod Blocks
-pub mod Texts

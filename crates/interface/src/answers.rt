@@ -75,7 +75,7 @@ pub fn encoded_number(made: Encoded) -> u32
     }
 }
 
-pub(crate) fn packed(number: u8, count: usize, last: usize) -> u64
+fn packed(number: u8, count: usize, last: usize) -> u64
     requires { ⌜ (count < 2 ^ 16) × (last < 2 ^ 32) ⌝ }
     ensures { λ r. ⌜ r ≡ packed number count last ⌝ }
 {

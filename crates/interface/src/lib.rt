@@ -3,7 +3,6 @@
 pub mod answers;
 pub mod readings;
 pub mod state;
-pub mod texts;
 
 use blocks::ccd::CCD_READINGS;
 use blocks::ccd::CCD_WORDS;
@@ -34,7 +33,6 @@ ghost use Rattle.head.specs.Row.{stateOf};
 ghost use Rattle.interface.specs.Plans.{translatedOf, translatedAnswer};
 ghost use Rattle.interface.specs.Stepping.{powerOnAnswer, powerOnState, rangeAnswer, wordAnswer, wordState, tickAnswer, tickState, listAnswer, listState, listOutcomes};
 ghost use Rattle.interface.specs.Codec.{decodedAnswer, encodedAnswer};
-ghost use Rattle.interface.specs.Texts.{listingAnswer, listingLeft, reportAnswer, reportLeft, reportState, refusalLength, refusalLeft};
 
 // Writes the power-on state.
 #[no_mangle]
@@ -244,42 +242,4 @@ pub extern "C" fn shabgozim_read_ccd(block: &[u16], numbers: &mut [u16]) -> u32
         }
         CcdAnswer::Refused(refusal) => answers::refused_number(refusal),
     }
-}
-
-// Writes the listing of a stored plan for the head in this state.
-#[no_mangle]
-pub extern "C" fn shabgozim_listing(state: &[u16], plan: &[u8], text: &mut [u8]) -> u64
-    ensures { λ r. ⌜ r ≡ listingAnswer (now (state .entry)) (now (plan .entry)) (now (text .entry)) ⌝ }
-    ensures { λ _. ⌜ now (text .exit) ≡ listingLeft (now (state .entry)) (now (plan .entry)) (now (text .entry)) ⌝ }
-{
-    if !state::well_formed(state) {
-        return STATE_UNFIT as u64;
-    }
-    texts::put_listing(state, plan, text)
-}
-
-// Writes the report of a stored plan, from this state once it is idle and at rest, and leaves the state at the plan's end.
-#[no_mangle]
-pub extern "C" fn shabgozim_report(state: &mut [u16], plan: &[u8], text: &mut [u8]) -> u64
-    ensures { λ r. ⌜ r ≡ reportAnswer (now (state .entry)) (now (plan .entry)) (now (text .entry)) ⌝ }
-    ensures { λ _. ⌜ now (state .exit) ≡ reportState (now (state .entry)) (now (plan .entry)) (now (text .entry)) ⌝ }
-    ensures { λ _. ⌜ now (text .exit) ≡ reportLeft (now (state .entry)) (now (plan .entry)) (now (text .entry)) ⌝ }
-{
-    if !state::well_formed(state) {
-        return STATE_UNFIT as u64;
-    }
-    texts::put_report(state, plan, text)
-}
-
-// Writes a refusal of a plan in words.
-#[no_mangle]
-pub extern "C" fn shabgozim_refusal(number: u8, place: u32, plan: &[u8], text: &mut [u8]) -> u32
-    ensures { λ r. ⌜ r ≡ refusalLength number place (now (plan .entry)) (now (text .entry)) ⌝ }
-    ensures { λ _. ⌜ now (text .exit) ≡ refusalLeft number place (now (plan .entry)) (now (text .entry)) ⌝ }
-{
-    let refusal = (1 <= number) & (number <= 10);
-    if !refusal {
-        return 0;
-    }
-    texts::put_wording(number, place as usize, plan, text)
 }

@@ -11,7 +11,7 @@ ghost use Prim.Native.Nat.{_+_, _≤_};
 ghost use lib.ListN.{length};
 ghost use lib.Seq.{sets};
 ghost use Rattle.head.specs.Row.{places, settingsOf, numbersOf, stateOf};
-ghost use Rattle.interface.specs.State.{bitOf, wellFormed};
+ghost use Rattle.interface.specs.State.{headOf, storedIn, bitOf, wellFormed};
 
 pub const PLACES: usize = 35;
 
@@ -108,4 +108,23 @@ pub(crate) fn store(s: &mut [u16], head: Head)
 {
     let row = head.numbers();
     put(s, 0, &row);
+}
+
+// For other crates: the head that an array holds, and power-on where it has not 35 places.
+pub fn head_of(s: &[u16]) -> Head
+    ensures { λ r. ⌜ r ≡ headOf (now (s .entry)) ⌝ }
+{
+    if s.len() == PLACES {
+        return load(s);
+    }
+    Head::power_on()
+}
+
+// Stores a head in an array of 35 places; any other is left as it was.
+pub fn store_head(s: &mut [u16], head: Head)
+    ensures { λ _. ⌜ now (s .exit) ≡ storedIn head (now (s .entry)) ⌝ }
+{
+    if s.len() == PLACES {
+        store(s, head);
+    }
 }

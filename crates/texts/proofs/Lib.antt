@@ -1,0 +1,5 @@
+pub mod Refused
+pub mod Handed
+pub mod Listing
+pub mod Reporting
+pub mod Wording
