@@ -14,15 +14,19 @@
 //! | [`run`](mod@run) | a head driven through timed words, tick by tick |
 //! | [`blocks`] | the two housekeeping blocks, written and read |
 //! | [`listing`](mod@listing) | the printed form of a translation |
+//! | [`report`](mod@report) | what a head does with a plan, laid out for reading |
+//! | `in_words` | a refusal of a plan in words |
 
 #![forbid(unsafe_code)]
 
 pub mod blocks;
 pub mod head;
+mod in_words;
 pub mod list;
 pub mod listing;
 pub mod plan;
 pub mod reading;
+pub mod report;
 pub mod run;
 pub mod state;
 pub mod translate;
@@ -36,6 +40,7 @@ pub use list::list;
 pub use listing::listing;
 pub use plan::{CoverMove, Order, Refusal};
 pub use reading::{read_plan, LoggedAct, Reading};
+pub use report::report;
 pub use run::{run, Checks, Run};
 pub use state::{in_range, power_on, ErrorFlags, MirrorSet, Settings, State};
 pub use translate::{translate, Translated, Translation};

@@ -1,5 +1,6 @@
 //! A plan read order by order, without any words.
 
+use crate::head::Act;
 use crate::plan::{orders, CoverMove, Order, Refusal};
 use crate::state::{Settings, State};
 
@@ -10,6 +11,18 @@ pub enum LoggedAct {
     Exposure(Settings),
     Housekeeping,
     Cover(CoverMove),
+}
+
+impl LoggedAct {
+    /// The entry of an act, with the settings that its word found.
+    pub fn of(act: Act, found: &Settings) -> Option<LoggedAct> {
+        match act {
+            Act::None => None,
+            Act::Exposure => Some(LoggedAct::Exposure(*found)),
+            Act::Housekeeping => Some(LoggedAct::Housekeeping),
+            Act::Cover(data) => Some(LoggedAct::Cover(CoverMove::from_data(data))),
+        }
+    }
 }
 
 /// What a plan says: the final settings and the acts, in order.

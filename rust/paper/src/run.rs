@@ -1,7 +1,6 @@
 //! A head driven through timed words, tick by tick.
 
 use crate::head::{receive, tick, Act, Outcome};
-use crate::plan::CoverMove;
 use crate::reading::LoggedAct;
 use crate::state::{Settings, State, TASK_ACQUISITION};
 
@@ -98,18 +97,10 @@ impl Driver {
     }
 
     fn log(&mut self, act: Act, found: &Settings) {
-        match act {
-            Act::None => {}
-            Act::Exposure => {
-                self.exposed_under = Some(*found);
-                self.run.log.push(LoggedAct::Exposure(*found));
-            }
-            Act::Housekeeping => self.run.log.push(LoggedAct::Housekeeping),
-            Act::Cover(data) => {
-                let cover = CoverMove::from_data(data);
-                self.run.log.push(LoggedAct::Cover(cover));
-            }
+        if act == Act::Exposure {
+            self.exposed_under = Some(*found);
         }
+        self.run.log.extend(LoggedAct::of(act, found));
     }
 
     fn check_exposure(&mut self) {
