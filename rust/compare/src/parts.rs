@@ -3,7 +3,8 @@
 use crate::random::Random;
 use crate::reduce::Counted;
 use crate::sides::Sides;
-use crate::{blocks, codec, demand3, limits, list_limits, lists, plans, steps, unpacked};
+use crate::{blocks, codec, demand3, limits, list_limits, lists, plans};
+use crate::{refusals, reports, steps, unpacked};
 
 pub type Compare = fn(&Sides, &mut Random, u32) -> Counted;
 
@@ -36,6 +37,8 @@ pub const PARTS: &[Part] = &[
     part("plans at the limits", limits::plans),
     part("demand 3", demand3::random_plans),
     part("demand 3 at the limits", demand3::at_limits),
+    part("reports", reports::reports),
+    part("refusals in words", refusals::in_words),
     part("blocks written", blocks::written),
     part("blocks read", blocks::read),
     part("block lengths", blocks::lengths),

@@ -256,7 +256,8 @@ fn any_state(random: &mut Random) -> Vec<u16> {
     }
 }
 
-fn any_plan(random: &mut Random) -> Vec<u8> {
+/// A plan of any sort, sometimes damaged or cut off.
+pub fn any_plan(random: &mut Random) -> Vec<u8> {
     let mut plan = orders::plan(&any_or_extreme_orders(random));
     if random.once_in(3) {
         let at = random.below(plan.len());

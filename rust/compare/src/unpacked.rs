@@ -33,6 +33,9 @@ pub fn answers(sides: &Sides, random: &mut Random, times: u32) -> Counted {
         plan[at] ^= random.byte() & random.byte() & random.byte();
         count += translation(paper, &state, &plan, random.below(300))?;
         count += schedule(paper, &state, &plan)?;
+        if random.once_in(8) {
+            count += report(paper, &states::in_range(random), &plan)?;
+        }
     }
     let lists = RandomLists::new();
     for _ in 0..20_000 * times {
@@ -188,6 +191,18 @@ fn schedule(paper: &Typed, state: &Numbers, plan: &[u8]) -> Counted {
         end: done.end,
     });
     same(state, found, expected.map_err(refusal_of))
+}
+
+/// A report and the state it leaves, or the refusal and its words.
+fn report(paper: &Typed, state: &Numbers, plan: &[u8]) -> Counted {
+    let mut head = State { numbers: *state };
+    let found = head.report(plan);
+    let found = found.map_err(|refusal| (refusal, refusal.in_words(plan)));
+    let mut expected_head = paper::State::from_array(state);
+    let expected = (paper.report)(&mut expected_head, plan);
+    let expected = expected.map_err(|refusal| (refusal_of(refusal), refusal.in_words(plan)));
+    let count = same(state, found, expected)?;
+    Ok(count + same(state, head.numbers, expected_head.to_array())?)
 }
 
 fn refusal_of(refusal: Refusal) -> PlanRefusal {

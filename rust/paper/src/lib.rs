@@ -1,6 +1,7 @@
 //! The VIRTIS-M command words, the PEM-M head, lists of timed words, stored
 //! plans and the two housekeeping blocks, written from document 01 and
-//! document 02's request P1 alone.
+//! document 02's request P1 alone; reports and refusals in words from their
+//! description and the stored reports.
 //!
 //! | module | idea |
 //! |---|---|

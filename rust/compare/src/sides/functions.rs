@@ -7,6 +7,11 @@ pub type List = fn(&mut [u16], &[u16], &[u32], &mut [u16]) -> u32;
 /// State, plan, and the buffers for words and ticks.
 pub type Translate = fn(&[u16], &[u8], &mut [u16], &mut [u32]) -> u64;
 
+/// State, plan, and the buffer for the text.
+pub type Report = fn(&mut [u16], &[u8], &mut [u8]) -> u64;
+/// Number, place, plan, and the buffer for the text.
+pub type Refusal = fn(u8, u32, &[u8], &mut [u8]) -> u32;
+
 /// The functions of [`Side`].
 #[derive(Clone, Copy)]
 pub struct Functions {
@@ -18,6 +23,8 @@ pub struct Functions {
     pub decode: fn(u16) -> u32,
     pub encode: fn(u8, u16) -> u32,
     pub translate: Translate,
+    pub report: Report,
+    pub refusal: Refusal,
     pub write_ir: fn(&[u16], Shown, &[u16], &mut [u16]) -> u32,
     pub write_ccd: fn(&[u16], Shown, &[u16], &mut [u16]) -> u32,
     pub read_ir: fn(&[u16], &mut [u16]) -> u32,
@@ -44,6 +51,8 @@ impl Functions {
             decode: S::decode,
             encode: S::encode,
             translate: S::translate,
+            report: S::report,
+            refusal: S::refusal,
             write_ir: S::write_ir,
             write_ccd: S::write_ccd,
             read_ir: S::read_ir,

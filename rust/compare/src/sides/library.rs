@@ -39,6 +39,14 @@ impl Side for Library {
         raw::translate(state, plan, words, ticks)
     }
 
+    fn report(state: &mut [u16], plan: &[u8], text: &mut [u8]) -> u64 {
+        raw::report(state, plan, text)
+    }
+
+    fn refusal(number: u8, place: u32, plan: &[u8], text: &mut [u8]) -> u32 {
+        raw::refusal(number, place, plan, text)
+    }
+
     fn write_ir(state: &[u16], shown: Shown, readings: &[u16], block: &mut [u16]) -> u32 {
         raw::write_ir(state, shown.flags, shown.ended, shown.bits, readings, block)
     }

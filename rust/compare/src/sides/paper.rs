@@ -3,7 +3,7 @@
 //! The `paper_` functions are never inlined and keep their names, so that
 //! instruction counts can be taken of each.
 
-use super::{paper_blocks as blocks, Shown, Side};
+use super::{paper_blocks as blocks, paper_texts as texts, Shown, Side};
 use paper::state::STATE_LENGTH;
 use paper::{Decoded, ErrorFlags, State, Task, Ticked};
 
@@ -44,6 +44,14 @@ impl Side for Paper {
 
     fn translate(state: &[u16], plan: &[u8], words: &mut [u16], ticks: &mut [u32]) -> u64 {
         paper_translate(state, plan, words, ticks)
+    }
+
+    fn report(state: &mut [u16], plan: &[u8], text: &mut [u8]) -> u64 {
+        texts::report(state, plan, text)
+    }
+
+    fn refusal(number: u8, place: u32, plan: &[u8], text: &mut [u8]) -> u32 {
+        texts::refusal(number, place, plan, text)
     }
 
     fn write_ir(state: &[u16], shown: Shown, readings: &[u16], block: &mut [u16]) -> u32 {

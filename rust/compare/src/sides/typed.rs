@@ -3,7 +3,7 @@
 
 use paper::blocks::{CCD_READINGS, IR_READINGS};
 use paper::{BlockRefusal, CcdMeaning, ErrorFlags, IrCallerBits, IrMeaning};
-use paper::{Outcome, State, Ticked, Translated};
+use paper::{Outcome, Refusal, State, Ticked, Translated};
 
 #[derive(Clone, Copy)]
 pub struct Typed {
@@ -12,6 +12,7 @@ pub struct Typed {
     pub tick: fn(&mut State) -> Ticked,
     pub list: fn(&mut State, &[u16], &[u32], &mut [u16]) -> u16,
     pub translate: fn(&State, &[u8], &mut [u16], &mut [u32]) -> Translated,
+    pub report: fn(&mut State, &[u8]) -> Result<String, Refusal>,
     pub write_ir: WriteIr,
     pub write_ccd: WriteCcd,
     pub read_ir: fn(&[u16]) -> Result<IrMeaning, BlockRefusal>,
@@ -29,6 +30,7 @@ impl Typed {
         tick: paper::tick,
         list: paper::list,
         translate: paper::translate,
+        report: paper::report,
         write_ir: paper::write_ir,
         write_ccd: paper::write_ccd,
         read_ir: paper::read_ir,

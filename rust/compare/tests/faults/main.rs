@@ -5,6 +5,7 @@ mod blocks;
 mod fault;
 mod lists;
 mod plans;
+mod reports;
 mod words;
 
 use compare::parts::PARTS;
@@ -26,6 +27,11 @@ fn faults_in_plans_are_found() {
 }
 
 #[test]
+fn faults_in_reports_are_found() {
+    reports::FAULTS.iter().for_each(Fault::must_be_found);
+}
+
+#[test]
 fn faults_in_blocks_are_found() {
     blocks::FAULTS.iter().for_each(Fault::must_be_found);
 }
@@ -42,7 +48,14 @@ fn without_a_fault_nothing_is_found() {
 
 #[test]
 fn every_part_has_a_fault_to_find() {
-    let faults = [words::FAULTS, lists::FAULTS, plans::FAULTS, blocks::FAULTS].concat();
+    let faults = [
+        words::FAULTS,
+        lists::FAULTS,
+        plans::FAULTS,
+        reports::FAULTS,
+        blocks::FAULTS,
+    ]
+    .concat();
     for part in PARTS {
         let has_fault = faults.iter().any(|fault| fault.part == part.name);
         assert!(has_fault, "{}", part.name);
