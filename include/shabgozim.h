@@ -1,10 +1,14 @@
 /*
  * Shabgozim: verified ground software for the VIRTIS-M instrument head.
  *
- * Build the archive and link it; nothing else is needed:
+ * Build the archives and link them; nothing else is needed. The second is for
+ * the three functions that write texts (`shabgozim_listing`, `shabgozim_report`,
+ * `shabgozim_refusal`), and may be left out where none of them is called:
  *
  *     rt staticlib interface
- *     cc -I include program.c target/staticlib/libinterface.a
+ *     rt staticlib texts
+ *     cc -I include program.c target/staticlib/libinterface.a \
+ *        target/staticlib/libtexts.a
  *
  * Conventions
  *

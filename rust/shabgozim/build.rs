@@ -1,19 +1,22 @@
-//! Links the archive that `rt staticlib interface` writes.
+//! Links the archives that `rt staticlib interface` and `rt staticlib texts` write.
 
 use std::env;
 use std::path::{Path, PathBuf};
 
 const FOLDER_VARIABLE: &str = "SHABGOZIM_LIB_DIR";
 const USUAL_FOLDER: &str = "../../target/staticlib";
+const LIBRARIES: [&str; 2] = ["interface", "texts"];
 
 fn main() {
     let folder = archive_folder();
-    let archive = folder.join("libinterface.a");
     println!("cargo:rerun-if-env-changed={FOLDER_VARIABLE}");
-    println!("cargo:rerun-if-changed={}", archive.display());
-    require(&archive);
     println!("cargo:rustc-link-search=native={}", folder.display());
-    println!("cargo:rustc-link-lib=static=interface");
+    for library in LIBRARIES {
+        let archive = folder.join(format!("lib{library}.a"));
+        println!("cargo:rerun-if-changed={}", archive.display());
+        require(&archive, library);
+        println!("cargo:rustc-link-lib=static={library}");
+    }
 }
 
 fn archive_folder() -> PathBuf {
@@ -22,10 +25,10 @@ fn archive_folder() -> PathBuf {
     Path::new(&crate_folder).join(folder)
 }
 
-fn require(archive: &Path) {
+fn require(archive: &Path, library: &str) {
     if !archive.is_file() {
         eprintln!("{} is missing.", archive.display());
-        eprintln!("Run `rt staticlib interface`, or name its folder in {FOLDER_VARIABLE}.");
+        eprintln!("Run `rt staticlib {library}`, or name its folder in {FOLDER_VARIABLE}.");
         std::process::exit(1);
     }
 }

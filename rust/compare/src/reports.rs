@@ -11,7 +11,7 @@ use crate::report_case::{ReportCase, Reporter, MOST_ROOM};
 use crate::sides::Sides;
 use crate::states::{self, longest_times, Numbers};
 use crate::words::Words;
-use shabgozim::{place, REPORT_LENGTH};
+use shabgozim::{place, REPORT_LENGTH, STATE_LENGTH};
 
 /// How many plans one head is given.
 const ROW_LENGTH: usize = 8;
@@ -25,8 +25,9 @@ pub fn reports(sides: &Sides, random: &mut Random, times: u32) -> Counted {
         count += row(&mut reporter, random, &words)?;
     }
     for _ in 0..4000 * times {
-        let mut case = ReportCase::new(&any_state(random), any_plan(random));
-        case.room = any_room(random);
+        let (state, plan) = (any_state(random), any_plan(random));
+        let mut case = ReportCase::new(&state, plan.clone());
+        case.room = any_room(random, length(&state, &plan));
         count += reporter.compare(&case)?;
     }
     count += from_limits(&mut reporter, random)?;
@@ -117,12 +118,23 @@ fn any_state(random: &mut Random) -> Vec<u16> {
     }
 }
 
-/// Mostly just enough.
-fn any_room(random: &mut Random) -> usize {
+/// The length of the paper's report, 0 where there is none.
+fn length(state: &[u16], plan: &[u8]) -> usize {
+    let Ok(places) = <&[u16; STATE_LENGTH]>::try_from(state) else {
+        return 0;
+    };
+    let report = paper::report(&mut paper::State::from_array(places), plan);
+    report.map_or(0, |report| report.len())
+}
+
+/// Just enough, one byte less or more, or any other.
+fn any_room(random: &mut Random, length: usize) -> usize {
     match random.below(8) {
-        0 => REPORT_LENGTH - 1,
-        1 => random.below(REPORT_LENGTH),
-        2 => MOST_ROOM,
+        0 => length,
+        1 => length.saturating_sub(1),
+        2 => length + 1,
+        3 => random.below(length + 1),
+        4 => MOST_ROOM,
         _ => REPORT_LENGTH,
     }
 }

@@ -3,7 +3,6 @@
 
 use paper::state::STATE_LENGTH;
 use paper::{Refusal, State};
-use shabgozim::{REFUSAL_LENGTH, REPORT_LENGTH};
 
 const NOT_READY: u64 = 1;
 const TOO_SHORT: u64 = 10;
@@ -15,7 +14,7 @@ pub fn report(state: &mut [u16], plan: &[u8], text: &mut [u8]) -> u64 {
     let mut head = State::from_array(places);
     match paper::report(&mut head, plan) {
         Err(refusal) => u64::from(refusal.number) | (refusal.place as u64) << 32,
-        Ok(_) if text.len() < REPORT_LENGTH => TOO_SHORT,
+        Ok(report) if text.len() < report.len() => TOO_SHORT | (report.len() as u64) << 32,
         Ok(report) => {
             *places = head.to_array();
             (store(&report, text) as u64) << 32
@@ -24,9 +23,6 @@ pub fn report(state: &mut [u16], plan: &[u8], text: &mut [u8]) -> u64 {
 }
 
 pub fn refusal(number: u8, place: u32, plan: &[u8], text: &mut [u8]) -> u32 {
-    if text.len() < REFUSAL_LENGTH {
-        return 0;
-    }
     let refusal = Refusal {
         number: number.into(),
         place: place as usize,
@@ -34,6 +30,7 @@ pub fn refusal(number: u8, place: u32, plan: &[u8], text: &mut [u8]) -> u32 {
     };
     match refusal.in_words(plan) {
         none if none.is_empty() => 0,
+        line if text.len() <= line.len() => 0,
         line => store(&format!("{line}\n"), text) as u32,
     }
 }

@@ -116,10 +116,10 @@ pub const FAULTS: &[Fault] = &[
         is_reduced: |text| text.starts_with("refusal 9 at ") && orders(text) == 65,
     },
     Fault {
-        name: "255 places are taken for enough",
-        put: |sides| sides.paper.refusal = takes_255_places,
+        name: "room without the newline is taken for enough",
+        put: |sides| sides.paper.refusal = leaves_newline_out,
         part: REFUSALS,
-        is_reduced: |text| text.contains(" at 0, plan\nwith room for 255 bytes\n"),
+        is_reduced: |text| text.contains(" at 0, plan\nwith room for "),
     },
 ];
 
@@ -302,13 +302,13 @@ fn calls_65th_64th(number: u8, place: u32, plan: &[u8], text: &mut [u8]) -> u32 
     })
 }
 
-fn takes_255_places(number: u8, place: u32, plan: &[u8], text: &mut [u8]) -> u32 {
-    if text.len() != 255 {
-        return Paper::refusal(number, place, plan, text);
-    }
+fn leaves_newline_out(number: u8, place: u32, plan: &[u8], text: &mut [u8]) -> u32 {
     let mut longer = text.to_vec();
     longer.push(0);
     let length = Paper::refusal(number, place, plan, &mut longer);
-    text.copy_from_slice(&longer[..255]);
+    if length as usize == longer.len() {
+        longer.pop();
+    }
+    text.copy_from_slice(&longer[..text.len()]);
     length
 }
