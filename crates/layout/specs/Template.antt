@@ -1,5 +1,6 @@
 -- Lines laid out by a template: its bytes as they stand, but for these marks, whose places the values take one after another:
---   ####   a field, as wide as the marks are many (Fields); so @@@@, ~~~~ and %%%%
+--   ####   a number at the right of as many columns as there are marks; @@@@ a number by itself in at most so many, ~~~~ a sine register and
+--          %%%% ticks in seconds at the right (Fields)
 --   {a|b}  alternatives, of which the value chooses one: a for 0, b for 1, and so on; a mark in one that is not chosen takes no value
 --   ^      a star where the next value is another one than before, and a space where it is the same; it takes no value
 -- Assumes nothing.

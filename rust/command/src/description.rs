@@ -81,13 +81,13 @@ pub const STATUSES: &[(c_int, &str)] = &[
 ];
 
 pub const EXAMPLES: &[(&str, &str)] = &[
-    ("shabgozim list noon.plan", "Lists a plan."),
+    ("shabgozim list my.plan", "Lists a plan."),
     (
-        "shabgozim list noon.plan > noon.list && lp noon.list",
+        "shabgozim list my.plan > my.list && lp my.list",
         "Puts the listing on paper, but only where the plan is accepted.",
     ),
     (
-        "shabgozim report dawn.plan noon.plan",
+        "shabgozim report my.plan next.plan",
         "Reports two plans on one head, one after the other.",
     ),
     (
