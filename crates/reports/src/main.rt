@@ -1,12 +1,19 @@
 // The reports of further plans: one with every order, one with an exposure on either side of a mirror move, and two in a row, of which
 // the first leaves the cover moving.
 use head::state::Head;
+use libc::STDERR_FILENO;
 use libc::STDOUT_FILENO;
 use report::refusal::put_refusal;
 use report::report::LONGEST;
 use report::report::Reported;
 use report::report::report;
 ghost use Rattle.io.specs.Counts.{Counts};
+
+fn print(text: &[u8]) {
+    if !io::write_all(STDOUT_FILENO, text) {
+        io::write_all(STDERR_FILENO, b"reports: could not write\n");
+    }
+}
 
 // A length as a count of the bytes of a text.
 fn counted(length: usize, out: &[u8]) -> usize
@@ -25,13 +32,13 @@ fn show(head: Head, plan: &[u8]) -> Head {
     match reported {
         Reported::Done { head: last, length } => {
             let n = counted(length, &out);
-            io::write_all(STDOUT_FILENO, &out[..n]);
+            print(&out[..n]);
             last
         }
         Reported::Refused { number, place } => {
             let length = put_refusal(&mut out, 0, number, place, plan);
             let n = counted(length, &out);
-            io::write_all(STDOUT_FILENO, &out[..n]);
+            print(&out[..n]);
             head
         }
     }

@@ -11,16 +11,25 @@ fn answer(head: Head, word: u16) -> u64 {
     outcome.number() as u64
 }
 
+// Says on standard error that a line could not be written.
+fn say_failure(written: bool) {
+    if !written {
+        io::write_all(2, b"vectors: could not write\n");
+    }
+}
+
 fn print_line(name: &[u8], number: u64) {
-    io::write_all(1, name);
-    io::print_decimal(1, number);
-    io::write_all(1, b"\n");
+    let named = io::write_all(1, name);
+    let printed = io::print_decimal(1, number);
+    let ended = io::write_all(1, b"\n");
+    say_failure(named & printed & ended);
 }
 
 fn print_word(name: &[u8], word: u16) {
-    io::write_all(1, name);
-    io::print_hex(1, word as u64, 4);
-    io::write_all(1, b"\n");
+    let named = io::write_all(1, name);
+    let printed = io::print_hex(1, word as u64, 4);
+    let ended = io::write_all(1, b"\n");
+    say_failure(named & printed & ended);
 }
 
 fn words() {
