@@ -18,14 +18,14 @@ use Rattle.schedule.specs.Earliest.{isTaken, ready, delayWithin, delayOf}
 use Rattle.schedule.specs.Schedule.{readied, spanOf, sent, scheduleFrom}
 use Rattle.schedule.specs.Translate.{fit, scheduleOf, answerOfPlan, translateOf}
 use Rattle.layout.specs.Numbers.{ascii, decimalWithin, decimalOf, hexDigit, hexOf}
-use Rattle.text.specs.Lines.{headLine, wordLine, wordLines, endLine}
+use Rattle.text.specs.Lines.{headText, headLine, timedText, wordLine, wordLines, endText, endLine}
 use Rattle.text.specs.Listing.{listingOf, planText, listedBy, listedOf, answerText, printedFor}
 
 abbrev pub example : List ℕ
 example = 0x01 ∷ 0x00 ∷ 0x0A ∷ 0x05 ∷ 0x0C ∷ 0xFF ∷ 0x00 ∷ 0x0F ∷ 0xF8 ∷ 0x01 ∷ 0x0F ∷ 0x01 ∷ 0x10 ∷ []
 
 pub example-listed : printedFor example ≡ ascii "tick word\n0 2011\n1 A000\n2 600F\n3 E0F8\n33 8000\n191 4000\nend 194\n"
-unfolding printedFor answerText listedOf listedBy planText listingOf headLine wordLines wordLine endLine ascii decimalOf decimalWithin hexOf hexDigit
+unfolding printedFor answerText listedOf listedBy planText listingOf headLine headText wordLines wordLine timedText endLine endText ascii decimalOf decimalWithin hexOf hexDigit
     translateOf answerOfPlan fit scheduleOf scheduleFrom readied spanOf sent ready busyTicks isBusy atRest isTaken delayOf delayWithin
     planOf headerFault ordersFrom faultAt orderAt fieldAt countOf widthOf known orderLength fieldsFit within related
     itemsOfAll itemsOf wordsOf sineRegister answerOf onDecoded onWord outOfTurn after actOf taskOf tickOf ticksOf passed

@@ -18,7 +18,7 @@ use Rattle.layout.specs.Numbers.{ascii, hexOf}
 use Rattle.layout.specs.Written.{Written, Front}
 use Rattle.layout.proofs.Digits.{decimal-long}
 use Rattle.layout.proofs.Writing.{written-front}
-use Rattle.text.specs.Lines.{headLine, wordLine, wordLines, endLine, refusalLine}
+use Rattle.text.specs.Lines.{headText, headLine, timedText, wordLine, wordLines, endText, endLine, refusalLine}
 use Rattle.text.specs.Listing.{listingOf, scheduleText, planText}
 
 refusal-long : (n p : ℕ) → n < 2 ^ 8 → p < 2 ^ 64 → length (refusalLine n p) ≤ 64
@@ -32,11 +32,11 @@ refusal-front {n = n} {p = p} w h k size room = written-front w (omega (arith, r
 
 -- a tick up to the latest end has at most 7 digits
 word-line-long : (t w : ℕ) → t ≤ latest → length (wordLine t w) ≤ 13
-unfolding wordLine ascii hexOf
+unfolding wordLine timedText ascii hexOf
 word-line-long t w h = simp length-append (omega (arith, decimal-long 6 t (omega arith)))
 
 end-line-long : (end : ℕ) → end ≤ latest → length (endLine end) ≤ 12
-unfolding endLine ascii
+unfolding endLine endText ascii
 end-line-long end h = simp length-append (omega (arith, decimal-long 6 end (omega arith)))
 
 -- every tick is before the end
@@ -55,7 +55,7 @@ word-lines-long t (x ∷ xs) end r h =
 
 schedule-fits : (sch : Schedule) → Rising 0 (sch .list) (sch .end) → length (sch .list) ≤ mostWords → sch .end ≤ latest
     → length (scheduleText sch) ≤ 8192
-unfolding listingOf headLine ascii
+unfolding listingOf headLine headText ascii
 schedule-fits sch r few h =
     let lines = word-lines-long 0 (sch .list) (sch .end) r h in
     let last = end-line-long (sch .end) h in

@@ -10,12 +10,16 @@ use lib.Seq.{drop-cons, getD-take, length-take-le}
 use Rattle.layout.specs.Numbers.{ascii, decimalOf, hexOf}
 use Rattle.layout.specs.Written.{Written}
 use Rattle.layout.proofs.Writing.{written-then, Partly, partly-first, partly-next, partly-done}
-use Rattle.text.specs.Lines.{wordLine, wordLines, named, endLine, refusalLine}
+use Rattle.text.specs.Lines.{timedText, wordLine, wordLines, named, endText, endLine, refusalLine}
 
 module _ {l : List ℕ} {at p : ℕ} {m : List ℕ} {q : ℕ} {n : List ℕ} where
   pub end-line : (end : ℕ) → Written l at (named "end " end) p m → Written m p (ascii "\n") q n → Written l at (endLine end) q n
-  unfolding endLine
+  unfolding endLine endText
   end-line end = written-then
+
+  pub word-line : (tick word : ℕ) → Written l at (timedText tick word) p m → Written m p (ascii "\n") q n → Written l at (wordLine tick word) q n
+  unfolding wordLine
+  word-line tick word = written-then
 
   module _ {r : ℕ} {k : List ℕ} where
     pub refusal-line : (number place : ℕ) → Written l at (named "refused " number) p m → Written m p (named " at " place) q n
@@ -23,11 +27,10 @@ module _ {l : List ℕ} {at p : ℕ} {m : List ℕ} {q : ℕ} {n : List ℕ} whe
     unfolding refusalLine
     refusal-line number place a b c = written-then (written-then a b) c
 
-    pub word-line : (tick word : ℕ) → Written l at (decimalOf tick) p m → Written m p (ascii " ") q n
-        → {hex : List ℕ} → hex ≡ hexOf word → Written n q hex r k
-        → {s : ℕ} {j : List ℕ} → Written k r (ascii "\n") s j → Written l at (wordLine tick word) s j
-    unfolding wordLine
-    word-line tick word a b is c d = written-then (written-then (written-then a b) (rw is at c)) d
+    pub timed-text : (tick word : ℕ) → Written l at (decimalOf tick) p m → Written m p (ascii " ") q n
+        → {hex : List ℕ} → hex ≡ hexOf word → Written n q hex r k → Written l at (timedText tick word) r k
+    unfolding timedText
+    timed-text tick word a b is c = written-then (written-then a b) (rw is at c)
 
 -- the lines of the first so many ticks and words, from the ith on
 abbrev linesFrom : List ℕ → List ℕ → ℕ → ℕ → List ℕ

@@ -5,12 +5,18 @@ use Prim.Native.String.{String}
 use mathlib.Core.List.{List, [], _∷_, _++_}
 use Rattle.layout.specs.Numbers.{ascii, decimalOf, hexOf}
 
+unfoldable pub headText : List ℕ
+headText = ascii "tick word"
+
 unfoldable pub headLine : List ℕ
-headLine = ascii "tick word\n"
+headLine = headText ++ ascii "\n"
 
 -- Tick in decimal, word in four hex digits.
+unfoldable pub timedText : ℕ → ℕ → List ℕ
+timedText tick word = decimalOf tick ++ ascii " " ++ hexOf word
+
 unfoldable pub wordLine : ℕ → ℕ → List ℕ
-wordLine tick word = decimalOf tick ++ ascii " " ++ hexOf word ++ ascii "\n"
+wordLine tick word = timedText tick word ++ ascii "\n"
 
 -- A line for each tick and its word.
 unfoldable pub wordLines : List ℕ → List ℕ → List ℕ
@@ -22,8 +28,11 @@ wordLines (t ∷ ts) (w ∷ ws) = wordLine t w ++ wordLines ts ws
 abbrev pub named : String → ℕ → List ℕ
 named name n = ascii name ++ decimalOf n
 
+unfoldable pub endText : ℕ → List ℕ
+endText end = named "end " end
+
 unfoldable pub endLine : ℕ → List ℕ
-endLine end = named "end " end ++ ascii "\n"
+endLine end = endText end ++ ascii "\n"
 
 unfoldable pub refusalLine : ℕ → ℕ → List ℕ
 refusalLine number place = named "refused " number ++ named " at " place ++ ascii "\n"

@@ -7,16 +7,22 @@ use layout::numbers::put_named;
 ghost use Prim.Native.Nat.{_≤_};
 ghost use lib.ListN.{length, take};
 ghost use Rattle.layout.specs.Written.{Written, Front};
-ghost use Rattle.text.specs.Lines.{wordLine, wordLines, endLine, refusalLine};
+ghost use Rattle.text.specs.Lines.{timedText, wordLine, wordLines, endLine, refusalLine};
 
 // A tick and its word.
-fn put_word_line(out: &mut [u8], at: usize, tick: u32, word: u16) -> usize
-    ensures { λ r. ⌜ Written (now (out .entry)) at (wordLine tick word) r (now (out .exit)) ⌝ }
+pub fn put_timed(out: &mut [u8], at: usize, tick: u32, word: u16) -> usize
+    ensures { λ r. ⌜ Written (now (out .entry)) at (timedText tick word) r (now (out .exit)) ⌝ }
 {
     let after_tick = put_decimal(out, at, tick as u64);
     let digits = put_bytes(out, after_tick, b" ");
-    let after_word = put_bytes(out, digits, &hex4(word));
-    put_bytes(out, after_word, b"\n")
+    put_bytes(out, digits, &hex4(word))
+}
+
+fn put_word_line(out: &mut [u8], at: usize, tick: u32, word: u16) -> usize
+    ensures { λ r. ⌜ Written (now (out .entry)) at (wordLine tick word) r (now (out .exit)) ⌝ }
+{
+    let after = put_timed(out, at, tick, word);
+    put_bytes(out, after, b"\n")
 }
 
 // A line for each of the first count ticks and words.

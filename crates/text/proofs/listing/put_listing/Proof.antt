@@ -1,7 +1,7 @@
 -- `text::listing::put_listing` meets its contract.
 -- Assumes nothing.
 use Rattle.layout.specs.Numbers.{ascii}
-use Rattle.text.specs.Lines.{headLine}
+use Rattle.text.specs.Lines.{headText, headLine}
 use Rattle.text.proofs.Ways.{listing-written}
 use borrow.Author.Needs.{needs}
 use Rattle.text.proofs.listing.put_listing.Statement.{statement}
@@ -23,7 +23,7 @@ same-length : tie.Need-same-length
 same-length c = search needs
 
 returns : tie.Need-returns
-unfolding headLine ascii
+unfolding headLine headText ascii
 returns c = search (needs, listing-written)
 
 pub put-listing-spec : {M : Type 1} → statement M
