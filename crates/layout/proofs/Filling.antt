@@ -86,3 +86,8 @@ module _ {old : List ℕ} {at : ℕ} {template values before new : List ℕ} {pl
     pub filled : length template ≤ i → Written old at (layout template values before) place new
     unfolding layoutFrom
     filled all = partly-done (h .part) (ap (λ (l : List ℕ). layoutFrom k l values before) (drop-of-length-le template all))
+
+-- a template written with values by other names
+pub written-values : (t v w vs bs : List ℕ) → {l : List ℕ} {at : ℕ} {p : ℕ} {m : List ℕ} → v ≡ vs → w ≡ bs → Written l at (layout t v w) p m
+    → Written l at (layout t vs bs) p m
+written-values t v w vs bs e f h = rw (← e, ← f) h

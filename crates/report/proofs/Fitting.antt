@@ -24,7 +24,8 @@ use Rattle.run.specs.Compare.{same}
 use Rattle.layout.specs.Numbers.{bit, ascii}
 use Rattle.layout.specs.Template.{layout}
 use Rattle.layout.proofs.Widths.{layout-few}
-use Rattle.report.specs.Settings.{mirrorTemplate, irTemplate, ccdTemplate, lampsTemplate, mirrorShown, irShown, ccdShown, lampsShown, mirrorText, irText, ccdText, lampsText, settingsText}
+use Rattle.settings.specs.Settings.{mirrorTemplate, irTemplate, ccdTemplate, lampsTemplate, settingsText}
+use Rattle.settings.proofs.Fitting.{mostSettings, settings-few}
 use Rattle.report.specs.Acts.{pairTemplate, pairText, exposureText, coverTemplate, coverText, requestTemplate, entryText}
 use Rattle.report.specs.Lines.{orderShown, orderTemplate, orderText, isAct, placeTemplate, placeText, orderLine, exposedAfter, orderLines}
 use Rattle.report.specs.Opening.{flagsShown, planTemplate, startTemplate, titleTemplate, planText, startText, openingText}
@@ -37,23 +38,6 @@ use Rattle.report.specs.declared.ending.Outcome.{Outcome}
 use Rattle.report.specs.declared.report.Start.{Start}
 use Rattle.report.specs.declared.report.Reported.{Reported}
 use Rattle.report.proofs.Simulated.{reported-few}
-
-abbrev mostSettings : ℕ
-mostSettings = length mirrorTemplate + length irTemplate + length ccdTemplate + length lampsTemplate
-
-settings-few : (s before : Settings) → length (settingsText s before) ≤ mostSettings
-unfolding settingsText mirrorText irText ccdText lampsText
-settings-few s before =
-    omega (
-      arith,
-      length-append (mirrorText s before ++ irText s before ++ ccdText s before) (lampsText s before),
-      length-append (mirrorText s before ++ irText s before) (ccdText s before),
-      length-append (mirrorText s before) (irText s before),
-      layout-few mirrorTemplate (mirrorShown s) (mirrorShown before),
-      layout-few irTemplate (irShown s) (irShown before),
-      layout-few ccdTemplate (ccdShown s) (ccdShown before),
-      layout-few lampsTemplate (lampsShown s) (lampsShown before),
-    )
 
 abbrev mostEntry : ℕ
 mostEntry = max (length pairTemplate + mostSettings) (max (length coverTemplate) (max (length requestTemplate) (length orderTemplate)))

@@ -1,7 +1,7 @@
--- A template written with values by other names.
+-- An exposure written part by part, and the number of orders by the answer of judging.
 -- Assumes nothing.
 use mathlib.Core.Path.{_≡_, refl, sym, _∙_}
-use mathlib.Core.List.{List, [], _∷_}
+use mathlib.Core.List.{List}
 use Prim.Native.Nat.{ℕ}
 use native.Mathlib.Omega.{arith}
 use lib.ListN.{length}
@@ -11,14 +11,9 @@ use Rattle.plan.specs.Stored.{Plan, orders, refused, planOf, ordersIn}
 use Rattle.plan.specs.Judged.{judgedOf}
 use Rattle.plan.specs.declared.stored.Judged.{Judged}
 use Rattle.layout.specs.Written.{Written}
-use Rattle.layout.specs.Template.{layout}
 use Rattle.layout.proofs.Writing.{written-then}
-use Rattle.report.specs.Settings.{settingsText}
+use Rattle.settings.specs.Settings.{settingsText}
 use Rattle.report.specs.Acts.{pairText, exposureText}
-
-pub written-values : (t v w vs bs : List ℕ) → {l : List ℕ} {at : ℕ} {p : ℕ} {m : List ℕ} → v ≡ vs → w ≡ bs → Written l at (layout t v w) p m
-    → Written l at (layout t vs bs) p m
-written-values t v w vs bs e f h = rw (← e, ← f) h
 
 module _ (s before : Settings) where
   pub written-exposure : {n : ℕ} → n ≡ lengthBy (s .mode) (s .irdelay) (s .irexpo) (s .ccddelay) (s .ccdexpo)

@@ -7,7 +7,7 @@ use Rattle.head.specs.declared.state.Settings.{Settings}
 use Rattle.plan.specs.Reading.{Entry, exposure, request, coverMove}
 use Rattle.layout.specs.Numbers.{ascii}
 use Rattle.layout.specs.Template.{layout}
-use Rattle.report.specs.Settings.{settingsText}
+use Rattle.settings.specs.Settings.{settingsText}
 
 -- The mirror pair and the length in seconds.
 unfoldable pub pairTemplate : List ℕ

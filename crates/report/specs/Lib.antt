@@ -1,4 +1,3 @@
-pub mod Settings
 pub mod Read
 pub mod Acts
 pub mod Lines

@@ -1,5 +1,5 @@
 // What the head does, by the row of its log: an exposure with its settings, a housekeeping request, a cover move.
-use crate::settings::put_settings;
+use settings::put_settings;
 use head::apply::acquisition_ticks;
 use head::state::Head;
 use head::state::Settings;

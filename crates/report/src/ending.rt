@@ -1,6 +1,6 @@
 // The last lines of a report: the head at the end, what still moves, and whether all is as the plan says.
 use crate::opening::flag_values;
-use crate::settings::put_settings;
+use settings::put_settings;
 use head::state::FlagBits;
 use head::state::Head;
 use head::state::Settings;

@@ -6,4 +6,3 @@ pub mod opening;
 pub mod printed;
 pub mod refusal;
 pub mod report;
-pub mod settings;

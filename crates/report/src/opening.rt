@@ -1,5 +1,5 @@
 // The first lines of a report: the plan, and the state from which it was computed.
-use crate::settings::put_settings;
+use settings::put_settings;
 use head::state::FlagBits;
 use head::state::Head;
 use head::state::Settings;

@@ -2,7 +2,7 @@
 -- Assumes nothing.
 use Rattle.layout.specs.Numbers.{ascii}
 use Rattle.report.specs.Lines.{orderTemplate, orderText}
-use Rattle.report.proofs.Values.{written-values}
+use Rattle.layout.proofs.Filling.{written-values}
 use borrow.Author.Needs.{needs}
 use Rattle.report.proofs.lines.put_order_text.Statement.{statement}
 use Rattle.report.proofs.lines.put_order_text.Tie as tie

@@ -1,9 +1,9 @@
--- `report::settings::ccd_values` meets its contract.
+-- `settings::ccd_values` meets its contract.
 -- Assumes nothing.
-use Rattle.report.specs.Settings.{ccdShown}
+use Rattle.settings.specs.Settings.{ccdShown}
 use borrow.Author.Needs.{needs}
-use Rattle.report.proofs.settings.ccd_values.Statement.{statement}
-use Rattle.report.proofs.settings.ccd_values.Tie as tie
+use Rattle.settings.proofs.ccd_values.Statement.{statement}
+use Rattle.settings.proofs.ccd_values.Tie as tie
 
 in-ticks-requires : tie.Need-in-ticks-requires
 in-ticks-requires c κs = search needs

@@ -7,7 +7,7 @@ ghost use Prim.Native.Nat.{_*_};
 ghost use Rattle.words.specs.Fields.{on as Fields·on, current as Fields·current};
 ghost use Rattle.head.specs.Limits.{stepTicks};
 ghost use Rattle.layout.specs.Written.{Written};
-ghost use Rattle.report.specs.Settings.{mirrorShown, irShown, ccdShown, lampsShown, mirrorText, irText, ccdText, lampsText, settingsText};
+ghost use Rattle.settings.specs.Settings.{mirrorShown, irShown, ccdShown, lampsShown, mirrorText, irText, ccdText, lampsText, settingsText};
 
 fn wide(register: u16) -> u64
     ensures { λ r. ⌜ r ≡ register ⌝ }

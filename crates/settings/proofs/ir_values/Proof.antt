@@ -1,9 +1,9 @@
--- `report::settings::ir_values` meets its contract.
+-- `settings::ir_values` meets its contract.
 -- Assumes nothing.
-use Rattle.report.specs.Settings.{irShown}
+use Rattle.settings.specs.Settings.{irShown}
 use borrow.Author.Needs.{needs}
-use Rattle.report.proofs.settings.ir_values.Statement.{statement}
-use Rattle.report.proofs.settings.ir_values.Tie as tie
+use Rattle.settings.proofs.ir_values.Statement.{statement}
+use Rattle.settings.proofs.ir_values.Tie as tie
 
 wide-requires : tie.Need-wide-requires
 wide-requires c κs = search needs

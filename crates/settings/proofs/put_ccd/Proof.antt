@@ -1,11 +1,11 @@
--- `report::settings::put_ccd` meets its contract.
+-- `settings::put_ccd` meets its contract.
 -- Assumes nothing.
 use Rattle.layout.specs.Numbers.{ascii}
-use Rattle.report.specs.Settings.{ccdTemplate, ccdText}
-use Rattle.report.proofs.Values.{written-values}
+use Rattle.settings.specs.Settings.{ccdTemplate, ccdText}
+use Rattle.layout.proofs.Filling.{written-values}
 use borrow.Author.Needs.{needs}
-use Rattle.report.proofs.settings.put_ccd.Statement.{statement}
-use Rattle.report.proofs.settings.put_ccd.Tie as tie
+use Rattle.settings.proofs.put_ccd.Statement.{statement}
+use Rattle.settings.proofs.put_ccd.Tie as tie
 
 slice-aggregate-put-template : tie.Need-slice-aggregate-put-template
 slice-aggregate-put-template c = search needs

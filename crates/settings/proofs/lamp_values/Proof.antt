@@ -1,9 +1,9 @@
--- `report::settings::lamp_values` meets its contract.
+-- `settings::lamp_values` meets its contract.
 -- Assumes nothing.
-use Rattle.report.specs.Settings.{lampsShown}
+use Rattle.settings.specs.Settings.{lampsShown}
 use borrow.Author.Needs.{needs}
-use Rattle.report.proofs.settings.lamp_values.Statement.{statement}
-use Rattle.report.proofs.settings.lamp_values.Tie as tie
+use Rattle.settings.proofs.lamp_values.Statement.{statement}
+use Rattle.settings.proofs.lamp_values.Tie as tie
 
 on-requires : tie.Need-on-requires
 on-requires c κs = search needs

@@ -1,9 +1,9 @@
--- `report::settings::mirror_values` meets its contract.
+-- `settings::mirror_values` meets its contract.
 -- Assumes nothing.
-use Rattle.report.specs.Settings.{mirrorShown}
+use Rattle.settings.specs.Settings.{mirrorShown}
 use borrow.Author.Needs.{needs}
-use Rattle.report.proofs.settings.mirror_values.Statement.{statement}
-use Rattle.report.proofs.settings.mirror_values.Tie as tie
+use Rattle.settings.proofs.mirror_values.Statement.{statement}
+use Rattle.settings.proofs.mirror_values.Tie as tie
 
 wide-requires : tie.Need-wide-requires
 wide-requires c κs = search needs
