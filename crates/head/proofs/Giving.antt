@@ -9,12 +9,10 @@ use native.Mathlib.Numerals.{add-one}
 use native.Mathlib.Omega.{arith}
 use mir.Syntax.{w16}
 use mir.Val.{Fits}
-use lib.Dec.{ltb}
 use lib.ListN.{length, getD, drop, set, drop-of-length-le, length-set}
 use lib.Seq.{drop-cons, sets, sets-eq}
-use Rattle.words.proofs.Tests.{and-right}
-use Rattle.timed.specs.List.{rising, isList}
-use Rattle.timed.proofs.Rising.{list-even, list-rises}
+use Rattle.timed.specs.List.{isList}
+use Rattle.timed.proofs.Rising.{list-even}
 use Rattle.head.specs.Range.{inRange}
 use Rattle.head.specs.Word.{answerOf}
 use Rattle.head.specs.Tick.{ticksOf}
@@ -40,7 +38,6 @@ pub record Giving (ws ts : List ℕ) (s : Head) (old now : List ℕ) (head : Hea
   pub even : length ws ≡ length ts
   pub room : length ws ≤ length now
   pub long : length now ≡ length old
-  pub rises : rising (drop i ts) ≡ true
   pub same : headListed ws ts s ≡ headListed (drop i ws) (drop i ts) head
   pub written : sets old 0 (numbersListed ws ts s) ≡ sets now i (numbersListed (drop i ws) (drop i ts) head)
 
@@ -67,7 +64,6 @@ module _ {ws ts : List ℕ} {s : Head} {old : List ℕ} where
         even = list-even ws ts fits;
         room = room;
         long = refl;
-        rises = list-rises ws ts fits;
         same = refl;
         written = refl;
       }
@@ -83,7 +79,7 @@ module _ {ws ts : List ℕ} {s : Head} {old : List ℕ} where
       abbrev later : List ℕ
       later = drop (i + 1) ts
 
-      pub giving-ticks : i < length ts
+      giving-ticks : i < length ts
       giving-ticks = let even = h .even in omega arith
 
       split-words : drop i ws ≡ w ∷ drop (i + 1) ws
@@ -91,14 +87,6 @@ module _ {ws ts : List ℕ} {s : Head} {old : List ℕ} where
 
       split-ticks : drop i ts ≡ t ∷ later
       split-ticks = drop-cons ts i 0 giving-ticks ∙ ap (λ (j : ℕ). t ∷ drop j ts) (sym (add-one i))
-
-      rises-on : rising later ≡ true
-      unfolding rising
-      rises-on = go later (rw split-ticks at (h .rises))
-        where
-          go : (l : List ℕ) → rising (t ∷ l) ≡ true → rising l ≡ true
-          go [] r = refl
-          go (u ∷ l) r = and-right (ltb t u) (rising (u ∷ l)) r
 
       core : Giving ws ts s old (set now i (outcomeNumber (answerOf head w .outcome))) (stepped head w t later) (i + 1)
       unfolding stepped headListed numbersListed outcomesListed
@@ -108,7 +96,6 @@ module _ {ws ts : List ℕ} {s : Head} {old : List ℕ} where
             even = h .even;
             room = let room = h .room in simp length-set (omega arith);
             long = simp length-set (h .long);
-            rises = rises-on;
             same = h .same ∙ next-head;
             written = h .written ∙ next-written;
           }

@@ -15,3 +15,4 @@ pub mod BusyTicks
 pub mod Gaps
 pub mod Giving
 pub mod Lists
+pub mod Causes

@@ -2,8 +2,8 @@
 -- 02: 0, but 1 for an exposure, 2 for housekeeping, the word itself for a cover move.
 -- Assumes nothing.
 use Prim.Native.Nat.{ℕ, _+_}
-use mathlib.Core.Bool.{cond, not, _&&_}
-use lib.Dec.{eqb, ltb}
+use mathlib.Core.Bool.{Bool, cond, not, _&&_}
+use lib.Dec.{eqb, leb, ltb}
 use Rattle.words.specs.Kinds as kind
 use Rattle.words.specs.Kinds.{identifier, bitsOf, allowed, kindOf, kinds}
 use Rattle.head.specs.State.{noTask, acquisition, housekeeping}
@@ -41,6 +41,10 @@ causeNumber Turn = 25
 unfoldable pub outcomeNumber : Outcome → ℕ
 outcomeNumber (Taken a) = actNumber a
 outcomeNumber (Ignored c) = causeNumber c
+
+-- The number of an outcome is a cause's: no taken word has it, since COVER's words begin at 0x1000.
+unfoldable pub isCause : ℕ → Bool
+isCause n = leb 21 n && leb n 25
 
 -- The tasks, as a state holds them.
 unfoldable pub taskNumber : Task → ℕ

@@ -5,9 +5,9 @@ use timed::is_list;
 ghost use mathlib.Core.Path.{_≡_};
 ghost use mathlib.Core.Bool.{true};
 ghost use mathlib.Core.List.{_++_};
-ghost use Prim.Native.Nat.{_+_, _<_, _≤_};
+ghost use Prim.Native.Nat.{_+_, _-_, _≤_};
 ghost use lib.ListN.{length, drop, getD};
-ghost use Rattle.timed.specs.List.{rising, isList};
+ghost use Rattle.timed.specs.List.{isList};
 ghost use Rattle.head.specs.Range.{inRange};
 ghost use Rattle.head.specs.Word.{answerOf};
 ghost use Rattle.head.specs.Tick.{ticksOf};
@@ -43,14 +43,23 @@ impl ListAnswer {
     }
 }
 
+// The ticks from one to another; none where they do not rise.
+fn ticks_between(from: u32, to: u32) -> u32
+    ensures { λ r. ⌜ r ≡ to - from ⌝ }
+{
+    if from < to { to - from } else { 0 }
+}
+
 // The ticks that pass after the word at a place.
-fn gap_after(ticks: &[u32], at: usize) -> u32
-    requires { ⌜ at < length (now ticks) ⌝ ∗ ⌜ rising (drop at (now ticks)) ≡ true ⌝ }
+pub fn gap_after(ticks: &[u32], at: usize) -> u32
     ensures { λ r. ⌜ r ≡ gapAfter (getD (now (ticks .entry)) at 0) (drop (at + 1) (now (ticks .entry))) ⌝ }
 {
+    if ticks.len() <= at {
+        return LAST_GAP;
+    }
     let next = at + 1;
     if next < ticks.len() {
-        return ticks[next] - ticks[at];
+        return ticks_between(ticks[at], ticks[next]);
     }
     LAST_GAP
 }

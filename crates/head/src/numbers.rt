@@ -7,7 +7,7 @@ use crate::word::Cause;
 use crate::word::Outcome;
 ghost use mathlib.Core.Path.{_≡_};
 ghost use Rattle.head.specs.Tick.{taskOf};
-ghost use Rattle.head.specs.Numbers.{actNumber, causeNumber, outcomeNumber, taskNumber, dueNumber};
+ghost use Rattle.head.specs.Numbers.{actNumber, causeNumber, isCause, outcomeNumber, taskNumber, dueNumber};
 
 impl Act {
     // A cover move gives its word.
@@ -36,6 +36,13 @@ impl Cause {
             Cause::Turn => 25,
         }
     }
+}
+
+// Whether the number of an outcome is a cause's.
+pub fn is_cause(number: u32) -> bool
+    ensures { λ r. ⌜ r ≡ isCause number ⌝ }
+{
+    (21 <= number) & (number <= 25)
 }
 
 impl Outcome {

@@ -2,21 +2,15 @@
 -- and it says so.
 -- Assumes nothing.
 use mathlib.Core.Path.{_≡_, refl, sym, ap, _∙_}
-use mathlib.Core.Bool.{Bool, true, false, not, _&&_}
+use mathlib.Core.Bool.{true, not}
 use mathlib.Core.List.{List, [], _∷_}
 use Prim.Native.Nat.{ℕ, _+_, _≤_}
-use native.Mathlib.Decide.{ℕ-discrete}
 use native.Mathlib.Omega.{arith}
-use borrow.Author.Tests.{leb-true}
-use lib.Dec.{leb}
 use lib.ListN.{length, length-map}
-use Rattle.words.proofs.Tests.{and-left, and-right}
 use Rattle.head.specs.Busy.{restTicks}
-use Rattle.head.specs.Numbers.{causeNumber}
 use Rattle.head.specs.List.{numbersListed}
 use Rattle.head.specs.declared.state.Head.{Head}
-use Rattle.head.specs.declared.word.Cause.{Cause}
-use Rattle.head.specs.declared.word.Cause.the-variants.{State, Busy, UnknownWord, Range, Turn}
+use Rattle.head.proofs.Causes.{no-cause}
 use Rattle.head.proofs.Giving.{numbers-long}
 use Rattle.orders.specs.declared.order.Order.{Order}
 use Rattle.plan.specs.Read.{readRecord}
@@ -34,27 +28,8 @@ use Rattle.run.proofs.Whole.{run-whole}
 use Rattle.run.proofs.Comparing.{same-self}
 use Rattle.run.proofs.Equal.{compared-equal, record-is}
 use Rattle.layout.specs.Numbers.{bit}
-use Rattle.report.specs.Report.{rested, isTaken, takenIn, textOf, reportText}
+use Rattle.report.specs.Report.{rested, takenIn, textOf, reportText}
 use Rattle.report.proofs.Simulated.{simulated-zeros, lists-taken}
-
--- a number that is no cause's is that of a word that was taken
-no-cause : (n : ℕ) → ((c : Cause) → n ≡ causeNumber c → ⊥) → isTaken n ≡ true
-unfolding causeNumber
-no-cause n h = go (leb 21 n && leb n 25) refl
-  where
-    go : (z : Bool) → (leb 21 n && leb n 25) ≡ z → not z ≡ true
-    go false e = refl
-    go true e =
-        let low = leb-true 21 n (and-left (leb 21 n) (leb n 25) e) in
-        let high = leb-true n 25 (and-right (leb 21 n) (leb n 25) e) in
-        absurd (each (ℕ-discrete n 21) (ℕ-discrete n 22) (ℕ-discrete n 23) (ℕ-discrete n 24) low high)
-      where
-        each : Dec (n ≡ 21) → Dec (n ≡ 22) → Dec (n ≡ 23) → Dec (n ≡ 24) → 21 ≤ n → n ≤ 25 → ⊥
-        each (yes a) b c d low high = h State a
-        each (no a) (yes b) c d low high = h Busy b
-        each (no a) (no b) (yes c) d low high = h UnknownWord c
-        each (no a) (no b) (no c) (yes d) low high = h Range d
-        each (no a) (no b) (no c) (no d) low high = h Turn (omega arith)
 
 all-taken : (ns : List ℕ) → NoCause ns → takenIn ns ≡ length ns
 unfolding takenIn

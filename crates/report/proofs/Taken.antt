@@ -1,27 +1,27 @@
 -- The outcomes of words that were taken, counted.
 -- Assumes nothing.
 use mathlib.Core.Path.{_≡_, refl, sym, ap, _∙_}
-use mathlib.Core.Bool.{Bool, true, false, not, _&&_}
+use mathlib.Core.Bool.{Bool, true, false, not}
 use mathlib.Core.List.{List, [], _∷_, _++_}
 use Prim.Native.Nat.{ℕ, _+_, _≤_, _<_}
 use native.Mathlib.Numerals.{add-one}
 use native.Mathlib.Omega.{arith}
-use lib.Dec.{leb}
 use lib.ListN.{length, getD, take, drop, drop-of-length-le}
 use lib.Seq.{drop-cons, take-at, length-take-le}
+use Rattle.head.specs.Numbers.{isCause}
 use Rattle.head.specs.List.{numbersListed, listOf, outcomesAfter}
 use Rattle.head.specs.declared.state.Head.{Head}
 use Rattle.head.specs.declared.list.Listed.{Listed}
 use Rattle.head.specs.declared.list.ListAnswer.the-variants.{Done}
 use Rattle.head.proofs.Giving.{numbers-long}
 use Rattle.layout.specs.Numbers.{bit}
-use Rattle.report.specs.Report.{isTaken, takenIn}
+use Rattle.report.specs.Report.{takenIn}
 
-module _ (n : ℕ) {z : Bool} (is : z ≡ (leb 21 n && leb n 25)) where
-  pub cause-none : z ≡ true → 0 ≡ bit (isTaken n)
+module _ (n : ℕ) {z : Bool} (is : z ≡ isCause n) where
+  pub cause-none : z ≡ true → 0 ≡ bit (not (isCause n))
   cause-none e = rw (← is, e)
 
-  pub taken-one : z ≡ false → 1 ≡ bit (isTaken n)
+  pub taken-one : z ≡ false → 1 ≡ bit (not (isCause n))
   taken-one e = rw (← is, e)
 
 -- so many of the first i outcomes are of words that were taken
@@ -37,11 +37,11 @@ bit-few : (b : Bool) → bit b ≤ 1
 bit-few true = omega arith
 bit-few false = omega arith
 
-pub taken-few : (n : ℕ) {d : ℕ} → d ≡ bit (isTaken n) → d ≤ 1
-taken-few n is = rw is (bit-few (isTaken n))
+pub taken-few : (n : ℕ) {d : ℕ} → d ≡ bit (not (isCause n)) → d ≤ 1
+taken-few n is = rw is (bit-few (not (isCause n)))
 
 module _ {ns : List ℕ} {taken i : ℕ} (h : Counted ns taken i) where
-  pub counted-next : i < length ns → {d : ℕ} → d ≡ bit (isTaken (getD ns i 0)) → Counted ns (taken + d) (i + 1)
+  pub counted-next : i < length ns → {d : ℕ} → d ≡ bit (not (isCause (getD ns i 0))) → Counted ns (taken + d) (i + 1)
   unfolding takenIn
   counted-next more {d} is =
       let one = taken-few (getD ns i 0) is in

@@ -1,13 +1,13 @@
 -- The report of a plan, computed from a state: the ticks until it is idle and at rest pass first.
 -- Assumes nothing.
 use Prim.Native.Nat.{ℕ, _+_, min}
-use mathlib.Core.Bool.{Bool, not, _&&_}
+use mathlib.Core.Bool.{not}
 use mathlib.Core.List.{List, [], _∷_, _++_}
-use lib.Dec.{leb}
 use lib.ListN.{length}
 use lib.Seq.{sets}
 use Rattle.head.specs.Busy.{restTicks}
 use Rattle.head.specs.Tick.{ticksOf}
+use Rattle.head.specs.Numbers.{isCause}
 use Rattle.head.specs.List.{numbersListed}
 use Rattle.head.specs.declared.state.Head.{Head}
 use Rattle.plan.specs.Reading.{Entry}
@@ -30,13 +30,10 @@ use Rattle.report.specs.declared.report.Reported.{Reported}
 abbrev pub rested : Head → Head
 rested s = ticksOf (restTicks s) s
 
--- Whether an outcome's number is of a word that was taken: 21-25 are the causes.
-abbrev pub isTaken : ℕ → Bool
-isTaken n = not (leb 21 n && leb n 25)
-
+-- How many outcomes are of words that were taken.
 unfoldable pub takenIn : List ℕ → ℕ
 takenIn [] = 0
-takenIn (n ∷ ns) = bit (isTaken n) + takenIn ns
+takenIn (n ∷ ns) = bit (not (isCause n)) + takenIn ns
 
 -- The plan's bytes, orders and words and the state; its orders line by line, with the ticks of its words and the head's log; the head at
 -- the end, and what came of the plan.

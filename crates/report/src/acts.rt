@@ -1,11 +1,11 @@
 // What the head does, by the row of its log: an exposure with its settings, a housekeeping request, a cover move.
-use settings::put_settings;
 use head::apply::acquisition_ticks;
 use head::state::Head;
 use head::state::Settings;
 use layout::template::put_template;
 use plan::log::EXPOSURE;
 use plan::log::REQUEST;
+use settings::put_settings;
 ghost use mathlib.Core.Path.{_≡_};
 ghost use lib.ListN.{length};
 ghost use Rattle.plan.specs.Reading.{exposure};

@@ -1,11 +1,11 @@
 // The last lines of a report: the head at the end, what still moves, and whether all is as the plan says.
 use crate::opening::flag_values;
-use settings::put_settings;
 use head::state::FlagBits;
 use head::state::Head;
 use head::state::Settings;
 use layout::numbers::bit;
 use layout::template::put_template;
+use settings::put_settings;
 ghost use mathlib.Core.Path.{_≡_};
 ghost use Rattle.layout.specs.Written.{Written};
 ghost use Rattle.report.specs.Ending.{sameFlags, motionText, flagsText, endText, wordsText, readingText, checksText, endingText};

@@ -1,10 +1,10 @@
 // The first lines of a report: the plan, and the state from which it was computed.
-use settings::put_settings;
 use head::state::FlagBits;
 use head::state::Head;
 use head::state::Settings;
 use layout::numbers::bit;
 use layout::template::put_template;
+use settings::put_settings;
 ghost use mathlib.Core.Path.{_≡_};
 ghost use Rattle.layout.specs.Written.{Written};
 ghost use Rattle.head.specs.Row.{numbersOf};

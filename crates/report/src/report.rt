@@ -4,6 +4,7 @@ use crate::ending::put_ending;
 use crate::lines::put_orders;
 use crate::opening::Counts;
 use crate::opening::put_opening;
+use head::numbers::is_cause;
 use head::state::Head;
 use plan::stored::Judged;
 use plan::stored::judge;
@@ -11,8 +12,10 @@ use run::compare::Compared;
 use run::compare::compare;
 use schedule::translate::MOST_WORDS;
 ghost use mathlib.Core.Path.{_≡_};
+ghost use mathlib.Core.Bool.{not};
 ghost use Prim.Native.Nat.{_≤_};
 ghost use lib.ListN.{length};
+ghost use Rattle.head.specs.Numbers.{isCause};
 ghost use Rattle.head.specs.List.{numbersListed, listOf};
 ghost use Rattle.head.specs.declared.list.ListAnswer.the-variants.{Done};
 ghost use Rattle.plan.specs.Stored.{orders, planOf, ordersIn};
@@ -20,7 +23,7 @@ ghost use Rattle.schedule.specs.Translate.{mostWords, translationNumber, transl
 ghost use Rattle.layout.specs.Numbers.{bit};
 ghost use Rattle.layout.specs.Written.{Written};
 ghost use Rattle.report.specs.Read.{entriesIn};
-ghost use Rattle.report.specs.Report.{rested, isTaken, takenIn, textOf, reportText, reportedOf, reportAfter, reportedNumber, reportedPlace};
+ghost use Rattle.report.specs.Report.{rested, takenIn, textOf, reportText, reportedOf, reportAfter, reportedNumber, reportedPlace};
 
 // Room for the report of every plan.
 pub const LONGEST: usize = 65536;
@@ -70,10 +73,9 @@ fn order_count(plan: &[u8]) -> usize
 
 // 1 for an outcome that is no cause.
 fn is_taken(outcome: u16) -> usize
-    ensures { λ r. ⌜ r ≡ bit (isTaken outcome) ⌝ ∗ ⌜ r ≤ 1 ⌝ }
+    ensures { λ r. ⌜ r ≡ bit (not (isCause outcome)) ⌝ ∗ ⌜ r ≤ 1 ⌝ }
 {
-    let cause = (21 <= outcome) & (outcome <= 25);
-    if cause {
+    if is_cause(outcome as u32) {
         return 0;
     }
     1

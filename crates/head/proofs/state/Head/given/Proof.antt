@@ -2,7 +2,7 @@
 -- Assumes nothing.
 use Prim.Native.Nat.{_-_}
 use lib.ListN.{length}
-use Rattle.head.proofs.Giving.{Giving, giving-first, giving-next, giving-head, giving-written, giving-ticks}
+use Rattle.head.proofs.Giving.{Giving, giving-first, giving-next, giving-head, giving-written}
 use borrow.Author.Needs.{needs}
 use Rattle.head.proofs.state.Head.given.Statement.{statement}
 use Rattle.head.proofs.state.Head.given.Tie as tie
@@ -26,7 +26,7 @@ shared-slice-read-stepped : tie.Need-shared-slice-read-stepped Inv-loop μ-loop
 shared-slice-read-stepped c = search needs
 
 gap-after-requires : tie.Need-gap-after-requires Inv-loop μ-loop
-gap-after-requires c κs = search (needs, giving-ticks)
+gap-after-requires c κs = search needs
 
 stepped-requires : tie.Need-stepped-requires Inv-loop μ-loop
 stepped-requires c κs = search needs
