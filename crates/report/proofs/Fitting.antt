@@ -24,9 +24,9 @@ use Rattle.run.specs.Compare.{same}
 use Rattle.layout.specs.Numbers.{bit, ascii}
 use Rattle.layout.specs.Template.{layout}
 use Rattle.layout.proofs.Widths.{layout-few}
-use Rattle.settings.specs.Settings.{mirrorTemplate, irTemplate, ccdTemplate, lampsTemplate, settingsText}
-use Rattle.settings.proofs.Fitting.{mostSettings, settings-few}
-use Rattle.report.specs.Acts.{pairTemplate, pairText, exposureText, coverTemplate, coverText, requestTemplate, entryText}
+use Rattle.registers.specs.Settings.{mirrorTemplate, irTemplate, ccdTemplate, lampsTemplate, settingsText, pairTemplate, pairText}
+use Rattle.registers.proofs.Fitting.{mostSettings, settings-few}
+use Rattle.report.specs.Acts.{exposureText, coverTemplate, coverText, requestTemplate, entryText}
 use Rattle.report.specs.Lines.{orderShown, orderTemplate, orderText, isAct, placeTemplate, placeText, orderLine, exposedAfter, orderLines}
 use Rattle.report.specs.Opening.{flagsShown, planTemplate, startTemplate, titleTemplate, planText, startText, openingText}
 use Rattle.report.specs.Ending as end

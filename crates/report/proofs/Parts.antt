@@ -18,7 +18,7 @@ use Rattle.layout.specs.Numbers.{bit}
 use Rattle.layout.specs.Written.{Written}
 use Rattle.layout.specs.Template.{layout}
 use Rattle.layout.proofs.Writing.{written-then, written-three}
-use Rattle.settings.specs.Settings.{settingsText}
+use Rattle.registers.specs.Settings.{settingsText}
 use Rattle.report.specs.Lines.{orderLines}
 use Rattle.report.specs.Opening.{flagsShown, planTemplate, startTemplate, titleTemplate, planText, startText, openingText}
 use Rattle.report.specs.Ending.{mirrorTemplate, coverTemplate, motionText, sameFlags, flagsTemplate, sinceTemplate, flagsText, readingTemplate, endText, wordsText, readingText, checksText, endingText}

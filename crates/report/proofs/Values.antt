@@ -12,8 +12,8 @@ use Rattle.plan.specs.Judged.{judgedOf}
 use Rattle.plan.specs.declared.stored.Judged.{Judged}
 use Rattle.layout.specs.Written.{Written}
 use Rattle.layout.proofs.Writing.{written-then}
-use Rattle.settings.specs.Settings.{settingsText}
-use Rattle.report.specs.Acts.{pairText, exposureText}
+use Rattle.registers.specs.Settings.{settingsText, pairText}
+use Rattle.report.specs.Acts.{exposureText}
 
 module _ (s before : Settings) where
   pub written-exposure : {n : ℕ} → n ≡ lengthBy (s .mode) (s .irdelay) (s .irexpo) (s .ccddelay) (s .ccdexpo)

@@ -7,18 +7,9 @@ use Rattle.head.specs.declared.state.Settings.{Settings}
 use Rattle.plan.specs.Reading.{Entry, exposure, request, coverMove}
 use Rattle.layout.specs.Numbers.{ascii}
 use Rattle.layout.specs.Template.{layout}
-use Rattle.settings.specs.Settings.{settingsText}
+use Rattle.registers.specs.Settings.{settingsText, pairText}
 
--- The mirror pair and the length in seconds.
-unfoldable pub pairTemplate : List ℕ
-pairTemplate = ascii "exposure: sine ~~~~~, cosine ####, length %%%%% s\n"
-
-unfoldable pub pairText : ℕ → ℕ → ℕ → List ℕ
-pairText sine cosine ticks =
-    let values = sine ∷ cosine ∷ ticks ∷ [] in
-    layout pairTemplate values values
-
--- These first, then all settings.
+-- The mirror pair and the length first, then all settings.
 unfoldable pub exposureText : Settings → Settings → List ℕ
 exposureText s before = pairText (s .sine) (s .cosine) (lengthOf s) ++ settingsText s before
 

@@ -9,7 +9,7 @@ use Rattle.head.specs.declared.state.Settings.{Settings}
 use Rattle.head.specs.declared.state.Head.{Head}
 use Rattle.layout.specs.Numbers.{bit, ascii}
 use Rattle.layout.specs.Template.{layout}
-use Rattle.settings.specs.Settings.{settingsText}
+use Rattle.registers.specs.Settings.{settingsText}
 use Rattle.report.specs.Opening.{flagsShown}
 use Rattle.report.specs.declared.ending.Outcome.{Outcome}
 

@@ -12,7 +12,7 @@ use Rattle.head.specs.declared.state.Head.{Head}
 use Rattle.run.specs.Compare.{same}
 use Rattle.layout.specs.Numbers.{bit, ascii}
 use Rattle.layout.specs.Template.{layout}
-use Rattle.settings.specs.Settings.{settingsText}
+use Rattle.registers.specs.Settings.{settingsText}
 use Rattle.report.specs.declared.opening.Counts.{Counts}
 
 -- Whether a flag is raised, and the five flags.

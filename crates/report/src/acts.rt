@@ -5,12 +5,13 @@ use head::state::Settings;
 use layout::template::put_template;
 use plan::log::EXPOSURE;
 use plan::log::REQUEST;
-use settings::put_settings;
+use registers::put_pair;
+use registers::put_settings;
 ghost use mathlib.Core.Path.{_≡_};
 ghost use lib.ListN.{length};
 ghost use Rattle.plan.specs.Reading.{exposure};
 ghost use Rattle.layout.specs.Written.{Written};
-ghost use Rattle.report.specs.Acts.{pairText, exposureText, coverText, entryText};
+ghost use Rattle.report.specs.Acts.{exposureText, coverText, entryText};
 ghost use Rattle.report.specs.Read.{rowSettings, rowEntry};
 
 // The twenty registers of a row.
@@ -42,21 +43,7 @@ pub(crate) fn settings_of(row: &[u16]) -> Settings
     }
 }
 
-// The mirror pair and the length in seconds.
-fn put_pair(out: &mut [u8], at: usize, sine: u16, cosine: u16, ticks: u32) -> usize
-    ensures { λ r. ⌜ Written (now (out .entry)) at (pairText sine cosine ticks) r (now (out .exit)) ⌝ }
-{
-    let values = [sine as u64, cosine as u64, ticks as u64];
-    put_template(
-        out,
-        at,
-        b"exposure: sine ~~~~~, cosine ####, length %%%%% s\n",
-        &values,
-        &values,
-    )
-}
-
-// These first, then all settings, marked where they are others than before.
+// The mirror pair and the length first, then all settings, marked where they are others than before.
 fn put_exposure(out: &mut [u8], at: usize, s: Settings, before: Settings) -> usize
     ensures { λ r. ⌜ Written (now (out .entry)) at (exposureText s before) r (now (out .exit)) ⌝ }
 {

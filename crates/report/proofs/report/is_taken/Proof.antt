@@ -6,6 +6,9 @@ use borrow.Author.Needs.{needs}
 use Rattle.report.proofs.report.is_taken.Statement.{statement}
 use Rattle.report.proofs.report.is_taken.Tie as tie
 
+is-cause-requires : tie.Need-is-cause-requires
+is-cause-requires c κs = search needs
+
 returns : tie.Need-returns
 returns c = (search (needs, cause-none), omega arith)
 
@@ -13,4 +16,4 @@ returns-2 : tie.Need-returns-2
 returns-2 c = (search (needs, taken-one), omega arith)
 
 pub is-taken-spec : {M : Type 1} → statement M
-is-taken-spec = tie.close (tie.spec returns returns-2)
+is-taken-spec = tie.close (tie.spec is-cause-requires returns returns-2)

@@ -1,10 +1,10 @@
--- `settings::put_settings` meets its contract: the groups one after another.
+-- `registers::put_settings` meets its contract: the groups one after another.
 -- Assumes nothing.
 use Rattle.layout.proofs.Writing.{written-four}
-use Rattle.settings.specs.Settings.{settingsText}
+use Rattle.registers.specs.Settings.{settingsText}
 use borrow.Author.Needs.{needs}
-use Rattle.settings.proofs.put_settings.Statement.{statement}
-use Rattle.settings.proofs.put_settings.Tie as tie
+use Rattle.registers.proofs.put_settings.Statement.{statement}
+use Rattle.registers.proofs.put_settings.Tie as tie
 
 put-mirror-requires : tie.Need-put-mirror-requires
 put-mirror-requires c κs = search needs

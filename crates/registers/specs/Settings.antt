@@ -58,3 +58,12 @@ lampsText s before = layout lampsTemplate (lampsShown s) (lampsShown before)
 
 unfoldable pub settingsText : Settings → Settings → List ℕ
 settingsText s before = mirrorText s before ++ irText s before ++ ccdText s before ++ lampsText s before
+
+-- The mirror pair of an exposure and its length in seconds.
+unfoldable pub pairTemplate : List ℕ
+pairTemplate = ascii "exposure: sine ~~~~~, cosine ####, length %%%%% s\n"
+
+unfoldable pub pairText : ℕ → ℕ → ℕ → List ℕ
+pairText sine cosine ticks =
+    let values = sine ∷ cosine ∷ ticks ∷ [] in
+    layout pairTemplate values values

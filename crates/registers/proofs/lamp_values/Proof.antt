@@ -1,9 +1,9 @@
--- `settings::lamp_values` meets its contract.
+-- `registers::lamp_values` meets its contract.
 -- Assumes nothing.
-use Rattle.settings.specs.Settings.{lampsShown}
+use Rattle.registers.specs.Settings.{lampsShown}
 use borrow.Author.Needs.{needs}
-use Rattle.settings.proofs.lamp_values.Statement.{statement}
-use Rattle.settings.proofs.lamp_values.Tie as tie
+use Rattle.registers.proofs.lamp_values.Statement.{statement}
+use Rattle.registers.proofs.lamp_values.Tie as tie
 
 on-requires : tie.Need-on-requires
 on-requires c κs = search needs

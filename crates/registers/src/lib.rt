@@ -7,7 +7,7 @@ ghost use Prim.Native.Nat.{_*_};
 ghost use Rattle.words.specs.Fields.{on as Fields·on, current as Fields·current};
 ghost use Rattle.head.specs.Limits.{stepTicks};
 ghost use Rattle.layout.specs.Written.{Written};
-ghost use Rattle.settings.specs.Settings.{mirrorShown, irShown, ccdShown, lampsShown, mirrorText, irText, ccdText, lampsText, settingsText};
+ghost use Rattle.registers.specs.Settings.{mirrorShown, irShown, ccdShown, lampsShown, mirrorText, irText, ccdText, lampsText, settingsText, pairText};
 
 fn wide(register: u16) -> u64
     ensures { λ r. ⌜ r ≡ register ⌝ }
@@ -146,4 +146,18 @@ pub fn put_settings(out: &mut [u8], at: usize, s: Settings, before: Settings) ->
     let ccd = put_ir(out, ir, s, before);
     let lamps = put_ccd(out, ccd, s, before);
     put_lamps(out, lamps, s, before)
+}
+
+// The mirror pair of an exposure and its length in seconds.
+pub fn put_pair(out: &mut [u8], at: usize, sine: u16, cosine: u16, ticks: u32) -> usize
+    ensures { λ r. ⌜ Written (now (out .entry)) at (pairText sine cosine ticks) r (now (out .exit)) ⌝ }
+{
+    let values = [sine as u64, cosine as u64, ticks as u64];
+    put_template(
+        out,
+        at,
+        b"exposure: sine ~~~~~, cosine ####, length %%%%% s\n",
+        &values,
+        &values,
+    )
 }

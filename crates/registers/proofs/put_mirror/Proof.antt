@@ -1,23 +1,23 @@
--- `settings::put_ir` meets its contract.
+-- `registers::put_mirror` meets its contract.
 -- Assumes nothing.
 use Rattle.layout.specs.Numbers.{ascii}
-use Rattle.settings.specs.Settings.{irTemplate, irText}
+use Rattle.registers.specs.Settings.{mirrorTemplate, mirrorText}
 use Rattle.layout.proofs.Filling.{written-values}
 use borrow.Author.Needs.{needs}
-use Rattle.settings.proofs.put_ir.Statement.{statement}
-use Rattle.settings.proofs.put_ir.Tie as tie
+use Rattle.registers.proofs.put_mirror.Statement.{statement}
+use Rattle.registers.proofs.put_mirror.Tie as tie
 
 slice-aggregate-put-template : tie.Need-slice-aggregate-put-template
 slice-aggregate-put-template c = search needs
 
-ir-values-requires : tie.Need-ir-values-requires
-ir-values-requires c κs = search needs
+mirror-values-requires : tie.Need-mirror-values-requires
+mirror-values-requires c κs = search needs
 
 slice-aggregate-put-template-2 : tie.Need-slice-aggregate-put-template-2
 slice-aggregate-put-template-2 c = search needs
 
-ir-values-requires-2 : tie.Need-ir-values-requires-2
-ir-values-requires-2 c κs = search needs
+mirror-values-requires-2 : tie.Need-mirror-values-requires-2
+mirror-values-requires-2 c κs = search needs
 
 slice-aggregate-put-template-3 : tie.Need-slice-aggregate-put-template-3
 slice-aggregate-put-template-3 c = search needs
@@ -29,17 +29,17 @@ same-length : tie.Need-same-length
 same-length c = search needs
 
 returns : tie.Need-returns
-unfolding irText irTemplate ascii
+unfolding mirrorText mirrorTemplate ascii
 returns c = search (needs, written-values)
 
-pub put-ir-spec : {M : Type 1} → statement M
-put-ir-spec =
+pub put-mirror-spec : {M : Type 1} → statement M
+put-mirror-spec =
     tie.close
     (tie.spec
     slice-aggregate-put-template
-    ir-values-requires
+    mirror-values-requires
     slice-aggregate-put-template-2
-    ir-values-requires-2
+    mirror-values-requires-2
     slice-aggregate-put-template-3
     put-template-requires
     same-length

@@ -1,9 +1,9 @@
--- `settings::mirror_values` meets its contract.
+-- `registers::mirror_values` meets its contract.
 -- Assumes nothing.
-use Rattle.settings.specs.Settings.{mirrorShown}
+use Rattle.registers.specs.Settings.{mirrorShown}
 use borrow.Author.Needs.{needs}
-use Rattle.settings.proofs.mirror_values.Statement.{statement}
-use Rattle.settings.proofs.mirror_values.Tie as tie
+use Rattle.registers.proofs.mirror_values.Statement.{statement}
+use Rattle.registers.proofs.mirror_values.Tie as tie
 
 wide-requires : tie.Need-wide-requires
 wide-requires c κs = search needs

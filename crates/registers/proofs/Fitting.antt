@@ -6,7 +6,7 @@ use native.Mathlib.Omega.{arith}
 use lib.ListN.{length, length-append}
 use Rattle.head.specs.declared.state.Settings.{Settings}
 use Rattle.layout.proofs.Widths.{layout-few}
-use Rattle.settings.specs.Settings.{mirrorTemplate, irTemplate, ccdTemplate, lampsTemplate, mirrorShown, irShown, ccdShown, lampsShown, mirrorText, irText, ccdText, lampsText, settingsText}
+use Rattle.registers.specs.Settings.{mirrorTemplate, irTemplate, ccdTemplate, lampsTemplate, mirrorShown, irShown, ccdShown, lampsShown, mirrorText, irText, ccdText, lampsText, settingsText}
 
 abbrev pub mostSettings : ℕ
 mostSettings = length mirrorTemplate + length irTemplate + length ccdTemplate + length lampsTemplate
