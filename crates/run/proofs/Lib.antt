@@ -13,3 +13,4 @@ pub mod Agreeing
 pub mod Comparison
 pub mod Equal
 pub mod Listed
+pub mod Ready

@@ -2,11 +2,14 @@
 -- Assumes nothing.
 use Prim.Native.Nat.{ℕ, _+_, _-_, _≤_}
 use mathlib.Core.Path.{_≡_}
+use mathlib.Core.Bool.{true, false}
 use mathlib.Core.List.{List, [], _∷_}
 use lib.ListN.{length}
+use Rattle.head.specs.Busy.{atRest}
+use Rattle.head.specs.Word.{answerOf}
 use Rattle.head.specs.Tick.{ticksOf}
-use Rattle.head.specs.Numbers.{causeNumber}
-use Rattle.head.specs.List.{headListed, numbersListed, listOf}
+use Rattle.head.specs.Numbers.{causeNumber, outcomeNumber, isCause}
+use Rattle.head.specs.List.{stepped, headListed, numbersListed, listOf}
 use Rattle.head.specs.declared.state.Head.{Head}
 use Rattle.head.specs.declared.word.Cause.{Cause}
 use Rattle.head.specs.declared.list.ListAnswer.the-variants.{Done}
@@ -24,6 +27,15 @@ NoCause (n ∷ ns) = ((c : Cause) → n ≡ causeNumber c → ⊥) × NoCause ns
 abbrev pub clockAfter : ℕ → List ℕ → ℕ
 clockAfter t [] = t
 clockAfter t (u ∷ ts) = clockAfter (u + 1) ts
+
+-- Every word is taken, and each exposure begins while nothing moves and no mirror set is begun.
+abbrev pub Ready : List ℕ → List ℕ → Head → Type 0
+Ready [] ts s = Unit {0}
+Ready (w ∷ ws) [] s = Unit {0}
+Ready (w ∷ ws) (t ∷ ts) s =
+    (isCause (outcomeNumber (answerOf s w .outcome)) ≡ false)
+    × (outcomeNumber (answerOf s w .outcome) ≡ 1 → (atRest s ≡ true) × (s .begun .count ≡ 0))
+    × Ready ws ts (stepped s w t ts)
 
 -- The claim for a head, the orders of a plan that was translated for it, the words and ticks of the translation, and its end.
 pub record InOneCall (s : Head) (os : List Order) (words ticks : List ℕ) (end : ℕ) : Type 0 where
