@@ -7,3 +7,4 @@ pub mod Copying
 pub mod Marks
 pub mod Filling
 pub mod Widths
+pub mod Alternatives

@@ -34,7 +34,7 @@ unfolding isMark
 no-mark c e i = false≢true (rw (eqb-true c (code "^") e) at i)
 
 -- what a byte stands for, and the marks that are passed then, are at most one more than the marks that were passed
-step-few : (k : Cursor) (c n v b : ℕ) → length (piece k c n v b) + moved k c n v .width ≤ k .width + 1
+pub step-few : (k : Cursor) (c n v b : ℕ) → length (piece k c n v b) + moved k c n v .width ≤ k .width + 1
 unfolding piece moved
 step-few k c n v b =
     go (eqb c (code "|")) refl (eqb c (code "}")) refl (eqb (k .bars) (k .chosen)) refl (eqb c (code "{")) refl (eqb c (code "^")) refl (isMark c) refl
@@ -56,7 +56,7 @@ step-few k c n v b =
     go false a false e true d false f false g true i false j =
         rw (a, e, d, f, g, i, j) (omega (arith, field-few c (k .width + 1) v))
 
-from-few : (k : Cursor) (t vs bs : List ℕ) → length (layoutFrom k t vs bs) ≤ k .width + length t
+pub from-few : (k : Cursor) (t vs bs : List ℕ) → length (layoutFrom k t vs bs) ≤ k .width + length t
 unfolding layoutFrom
 from-few k [] vs bs = omega arith
 from-few k (c ∷ cs) vs bs =
