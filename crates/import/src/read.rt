@@ -1,0 +1,267 @@
+// A list read from text: the line that names the columns, a line for each word, and the end, which may be missing.
+use crate::line::Line;
+use crate::line::is_text;
+use crate::line::line_of;
+use timed::MOST_WORDS;
+ghost use mathlib.Core.Path.{_≡_};
+ghost use mathlib.Core.List.{map};
+ghost use Prim.Native.Nat.{_+_, _≤_, _<_};
+ghost use lib.ListN.{length, take, drop};
+ghost use Rattle.import.specs.Read.{noHeadLine, noWordLine, notRising, tooManyWords, afterEnd, tooLong, mostBytes, lines, begin, next, fault, byLine, judged, readOf, answerBy, importOf, importNumber, importLine, wordOf, tickOf, wordLinesIn, wordsIn, ticksIn, importAfter};
+
+// The most bytes of a text.
+pub const MOST_BYTES: usize = 8192;
+
+// The reasons of a refusal; their numbers are ours, past those of documents 01 and 02.
+pub const NO_HEAD_LINE: u8 = 91;
+
+pub const NO_WORD_LINE: u8 = 92;
+
+pub const NOT_RISING: u8 = 93;
+
+pub const TOO_MANY_WORDS: u8 = 94;
+
+pub const AFTER_END: u8 = 95;
+
+pub const TOO_LONG: u8 = 96;
+
+const NEWLINE: u8 = b'\n';
+
+pub enum Import {
+    // The number of words.
+    Done { count: usize },
+    // The number of the reason, and the line, counted from 1.
+    Refused { number: u8, line: usize },
+}
+
+impl Import {
+    // The reason's number, 0 for none.
+    pub fn number(self) -> u8
+        ensures { λ r. ⌜ r ≡ importNumber self ⌝ }
+    {
+        match self {
+            Import::Done { count: _ } => 0,
+            Import::Refused { number, line: _ } => number,
+        }
+    }
+
+    // The line of a refusal, 0 for none.
+    pub fn line(self) -> usize
+        ensures { λ r. ⌜ r ≡ importLine self ⌝ }
+    {
+        match self {
+            Import::Done { count: _ } => 0,
+            Import::Refused { number: _, line } => line,
+        }
+    }
+}
+
+// What has been read: the number of a refusal, 0 for none, lines and words, the least tick that may come, and whether the end came.
+pub(crate) struct Progress {
+    number: u8,
+    line: usize,
+    count: usize,
+    least: u64,
+    ended: bool,
+}
+
+impl Progress {
+    fn begin() -> Progress
+        ensures { λ r. ⌜ r ≡ begin ⌝ }
+    {
+        Progress {
+            number: 0,
+            line: 0,
+            count: 0,
+            least: 0,
+            ended: false,
+        }
+    }
+
+    // One line more.
+    fn next(mut self) -> Progress
+        requires { ⌜ self .line < mostBytes ⌝ }
+        ensures { λ r. ⌜ r ≡ next self ⌝ }
+    {
+        self.line = self.line + 1;
+        self
+    }
+
+    // Refused at the line that was read last.
+    fn fault(mut self, number: u8) -> Progress
+        ensures { λ r. ⌜ r ≡ fault self number ⌝ }
+    {
+        self.number = number;
+        self
+    }
+
+    // A line after the first.
+    fn by_line(mut self, line: Line) -> Progress
+        ensures { λ r. ⌜ r ≡ byLine self line ⌝ }
+    {
+        match line {
+            Line::Word { tick, word: _ } => {
+                if (tick as u64) < self.least {
+                    return self.fault(NOT_RISING);
+                }
+                if MOST_WORDS <= self.count {
+                    return self.fault(TOO_MANY_WORDS);
+                }
+                self.count = self.count + 1;
+                self.least = tick as u64 + 1;
+                self
+            }
+            Line::End { tick } => {
+                if (tick as u64) < self.least {
+                    return self.fault(NOT_RISING);
+                }
+                self.ended = true;
+                self
+            }
+            Line::Other => self.fault(NO_WORD_LINE),
+        }
+    }
+
+    fn judged(self, line: &[u8]) -> Progress
+        requires { ⌜ self .line < mostBytes ⌝ }
+        ensures { λ r. ⌜ r ≡ judged self (now (line .entry)) ⌝ }
+    {
+        if self.number != 0 {
+            return self;
+        }
+        let next = self.next();
+        if self.line == 0 {
+            if is_text(line, b"tick word") {
+                return next;
+            }
+            return next.fault(NO_HEAD_LINE);
+        }
+        if self.ended {
+            return next.fault(AFTER_END);
+        }
+        next.by_line(line_of(line))
+    }
+
+    fn answer(self) -> Import
+        ensures { λ r. ⌜ r ≡ answerBy self ⌝ }
+    {
+        if self.number != 0 {
+            return Import::Refused {
+                number: self.number,
+                line: self.line,
+            };
+        }
+        if self.line == 0 {
+            return Import::Refused {
+                number: NO_HEAD_LINE,
+                line: 1,
+            };
+        }
+        Import::Done { count: self.count }
+    }
+}
+
+// The place of the newline of a line that begins at a place, or the text's end.
+fn line_end(text: &[u8], at: usize) -> usize
+{
+    let mut end = at;
+    while end < text.len() {
+        if text[end] == NEWLINE {
+            return end;
+        }
+        end = end + 1;
+    }
+    end
+}
+
+// Reads every line.
+fn judge(text: &[u8]) -> Progress
+    requires { ⌜ length (now text) ≤ mostBytes ⌝ }
+    ensures { λ r. ⌜ r ≡ readOf (now (text .entry)) ⌝ }
+{
+    let mut progress = Progress::begin();
+    let mut at: usize = 0;
+    while at < text.len() {
+        let end = line_end(text, at);
+        progress = progress.judged(&text[at..end]);
+        at = end + 1;
+    }
+    progress
+}
+
+fn line_count(text: &[u8]) -> usize
+    ensures { λ r. ⌜ r ≡ length (lines (now (text .entry))) ⌝ }
+{
+    let mut count: usize = 0;
+    let mut at: usize = 0;
+    while at < text.len() {
+        at = line_end(text, at) + 1;
+        count = count + 1;
+    }
+    count
+}
+
+// The answer alone.
+fn checked(text: &[u8]) -> Import
+    ensures { λ r. ⌜ r ≡ importOf (now (text .entry)) ⌝ }
+{
+    if MOST_BYTES < text.len() {
+        return Import::Refused {
+            number: TOO_LONG,
+            line: line_count(&text[..MOST_BYTES + 1]),
+        };
+    }
+    judge(text).answer()
+}
+
+fn word_of(line: Line) -> u16
+    ensures { λ r. ⌜ r ≡ wordOf line ⌝ }
+{
+    match line {
+        Line::Word { tick: _, word } => word,
+        _ => 0,
+    }
+}
+
+fn tick_of(line: Line) -> u32
+    ensures { λ r. ⌜ r ≡ tickOf line ⌝ }
+{
+    match line {
+        Line::Word { tick, word: _ } => tick,
+        _ => 0,
+    }
+}
+
+// The words and ticks of the lines after the first.
+fn fill(text: &[u8], count: usize, words: &mut [u16; MOST_WORDS], ticks: &mut [u32; MOST_WORDS])
+{
+    let mut at = line_end(text, 0) + 1;
+    let mut i: usize = 0;
+    while (i < count) & (at < text.len()) {
+        let end = line_end(text, at);
+        words[i] = word_of(line_of(&text[at..end]));
+        ticks[i] = tick_of(line_of(&text[at..end]));
+        at = end + 1;
+        i = i + 1;
+    }
+}
+
+// Reads a list from text. A refusal writes nothing, and success fills the first places only.
+pub fn read_list(
+    text: &[u8],
+    words: &mut [u16; MOST_WORDS],
+    ticks: &mut [u32; MOST_WORDS],
+) -> Import
+    ensures { λ r. ⌜ r ≡ importOf (now (text .entry)) ⌝ }
+    ensures { λ r. ⌜ now (words .exit) ≡ importAfter (wordsIn (now (text .entry))) (now (words .entry)) ⌝ }
+    ensures { λ r. ⌜ now (ticks .exit) ≡ importAfter (ticksIn (now (text .entry))) (now (ticks .entry)) ⌝ }
+{
+    let answer = checked(text);
+    match answer {
+        Import::Done { count } => {
+            fill(text, count, words, ticks);
+            answer
+        }
+        _ => answer,
+    }
+}
