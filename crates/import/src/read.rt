@@ -6,7 +6,10 @@ use timed::MOST_WORDS;
 ghost use mathlib.Core.Path.{_≡_};
 ghost use mathlib.Core.List.{map};
 ghost use Prim.Native.Nat.{_+_, _≤_, _<_};
-ghost use lib.ListN.{length, take, drop};
+ghost use lib.ListN.{length, take, drop, set};
+ghost use lib.Seq.{sets};
+ghost use Rattle.timed.specs.List.{mostWords};
+ghost use Rattle.import.specs.FirstLine.{firstLine};
 ghost use Rattle.import.specs.Read.{noHeadLine, noWordLine, notRising, tooManyWords, afterEnd, tooLong, mostBytes, lines, begin, next, fault, byLine, judged, readOf, answerBy, importOf, importNumber, importLine, wordOf, tickOf, wordLinesIn, wordsIn, ticksIn, importAfter};
 
 // The most bytes of a text.
@@ -163,6 +166,7 @@ impl Progress {
 
 // The place of the newline of a line that begins at a place, or the text's end.
 fn line_end(text: &[u8], at: usize) -> usize
+    ensures { λ r. ⌜ r ≡ at + length (firstLine (drop at (now (text .entry)))) ⌝ }
 {
     let mut end = at;
     while end < text.len() {
@@ -219,7 +223,8 @@ fn word_of(line: Line) -> u16
 {
     match line {
         Line::Word { tick: _, word } => word,
-        _ => 0,
+        Line::End { tick: _ } => 0,
+        Line::Other => 0,
     }
 }
 
@@ -228,19 +233,32 @@ fn tick_of(line: Line) -> u32
 {
     match line {
         Line::Word { tick, word: _ } => tick,
-        _ => 0,
+        Line::End { tick: _ } => 0,
+        Line::Other => 0,
     }
 }
 
-// The words and ticks of the lines after the first.
+// The word and tick of a line at a place.
+fn put_line(words: &mut [u16; MOST_WORDS], ticks: &mut [u32; MOST_WORDS], i: usize, line: Line)
+    requires { ⌜ i < mostWords ⌝ }
+    ensures { λ _. ⌜ now (words .exit) ≡ set (now (words .entry)) i (wordOf line) ⌝ }
+    ensures { λ _. ⌜ now (ticks .exit) ≡ set (now (ticks .entry)) i (tickOf line) ⌝ }
+{
+    words[i] = word_of(line);
+    ticks[i] = tick_of(line);
+}
+
+// The words and ticks of so many lines after the first.
 fn fill(text: &[u8], count: usize, words: &mut [u16; MOST_WORDS], ticks: &mut [u32; MOST_WORDS])
+    requires { ⌜ count ≤ mostWords ⌝ }
+    ensures { λ _. ⌜ now (words .exit) ≡ sets (now (words .entry)) 0 (map wordOf (wordLinesIn count (now (text .entry)))) ⌝ }
+    ensures { λ _. ⌜ now (ticks .exit) ≡ sets (now (ticks .entry)) 0 (map tickOf (wordLinesIn count (now (text .entry)))) ⌝ }
 {
     let mut at = line_end(text, 0) + 1;
     let mut i: usize = 0;
     while (i < count) & (at < text.len()) {
         let end = line_end(text, at);
-        words[i] = word_of(line_of(&text[at..end]));
-        ticks[i] = tick_of(line_of(&text[at..end]));
+        put_line(words, ticks, i, line_of(&text[at..end]));
         at = end + 1;
         i = i + 1;
     }
@@ -262,6 +280,6 @@ pub fn read_list(
             fill(text, count, words, ticks);
             answer
         }
-        _ => answer,
+        Import::Refused { number: _, line: _ } => answer,
     }
 }

@@ -1,0 +1,38 @@
+-- `import::read::put_line` meets its contract.
+-- Assumes nothing.
+use borrow.Author.Needs.{needs}
+use Rattle.import.proofs.read.put_line.Statement.{statement}
+use Rattle.import.proofs.read.put_line.Tie as tie
+
+word-of-requires : tie.Need-word-of-requires
+word-of-requires c κs = search needs
+
+mul-words : tie.Need-mul-words
+mul-words c = search needs
+
+element-write-words : tie.Need-element-write-words
+element-write-words c = search needs
+
+tick-of-requires : tie.Need-tick-of-requires
+tick-of-requires c κs = search needs
+
+mul-ticks : tie.Need-mul-ticks
+mul-ticks c = search needs
+
+element-write-ticks : tie.Need-element-write-ticks
+element-write-ticks c = search needs
+
+returns : tie.Need-returns
+returns c = (rw (c .before .word-of .ensures), rw (c .tick-of .ensures))
+
+pub put-line-spec : {M : Type 1} → statement M
+put-line-spec =
+    tie.close
+    (tie.spec
+    word-of-requires
+    mul-words
+    element-write-words
+    tick-of-requires
+    mul-ticks
+    element-write-ticks
+    returns)
