@@ -7,3 +7,5 @@ pub mod Scanning
 pub mod Lines
 pub mod Whole
 pub mod Filling
+pub mod Body
+pub mod Lists
