@@ -12,7 +12,6 @@ use Rattle.import.specs.Read.{noHeadLine, noWordLine, notRising, tooMany
 use Rattle.import.specs.declared.line.Line.{Line}
 use Rattle.import.specs.declared.line.Line.the-variants.{Word, End, Other}
 use Rattle.import.specs.declared.read.Progress.{Progress}
-use Rattle.import.specs.declared.read.Import.{Import}
 use Rattle.import.specs.declared.read.Import.the-variants.{Done, Refused}
 
 module _ (p : Progress) {line : Line} where

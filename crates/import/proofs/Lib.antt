@@ -9,3 +9,7 @@ pub mod Whole
 pub mod Filling
 pub mod Body
 pub mod Lists
+pub mod Values
+pub mod Printed
+pub mod PlanWords
+pub mod Round

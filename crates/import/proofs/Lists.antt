@@ -2,7 +2,7 @@
 -- Assumes nothing.
 use mathlib.Core.Path.{_≡_, refl, ap, _∙_}
 use mathlib.Core.Bool.{true}
-use mathlib.Core.List.{List, [], _∷_, map}
+use mathlib.Core.List.{List, _∷_, map}
 use Prim.Native.Nat.{ℕ, suc, _+_, _≤_}
 use native.Mathlib.Omega.{arith}
 use borrow.Author.Tests.{lt-ltb, le-leb, eq-eqb}
@@ -37,24 +37,24 @@ module _ (text : List ℕ) {n : ℕ} (e : importOf text ≡ Done n) where
   unfolding wordLinesIn
   numbers f = rw (e, accepted text e .are)
 
-  words : wordsIn text ≡ map wordOf (map lineOf (take n (accepted text e .rest)))
+  pub words-read : wordsIn text ≡ map wordOf (map lineOf (take n (accepted text e .rest)))
   unfolding wordsIn
-  words = numbers wordOf
+  words-read = numbers wordOf
 
-  ticks : ticksIn text ≡ map tickOf (map lineOf (take n (accepted text e .rest)))
+  pub ticks-read : ticksIn text ≡ map tickOf (map lineOf (take n (accepted text e .rest)))
   unfolding ticksIn
-  ticks = numbers tickOf
+  ticks-read = numbers tickOf
 
   pub import-words : length (wordsIn text) ≡ n
-  import-words = ap length words ∙ listed-long wordOf (accepted text e .listed)
+  import-words = ap length words-read ∙ listed-long wordOf (accepted text e .listed)
 
   pub import-ticks : length (ticksIn text) ≡ n
-  import-ticks = ap length ticks ∙ listed-long tickOf (accepted text e .listed)
+  import-ticks = ap length ticks-read ∙ listed-long tickOf (accepted text e .listed)
 
   -- a list, with the number of words that the answer says
   pub import-list : (isList (wordsIn text) (ticksIn text) ≡ true) × ((length (wordsIn text) ≡ n) × (n ≤ mostWords))
   unfolding isList
   import-list =
       let few = import-few text e in
-      let order : rising (ticksIn text) ≡ true = rw ticks (rises (accepted text e .listed)) in
+      let order : rising (ticksIn text) ≡ true = rw ticks-read (rises (accepted text e .listed)) in
       (rw (import-words, import-ticks, eq-eqb n n refl, le-leb n mostWords few, order), (import-words, few))

@@ -2,7 +2,7 @@
 -- Assumes nothing.
 use mathlib.Core.Path.{_≡_, sym, ap, _∙_}
 use mathlib.Core.Bool.{Bool, true, false, _&&_}
-use mathlib.Core.List.{List, []}
+use mathlib.Core.List.{List}
 use Prim.Native.Nat.{ℕ, _-_, _^_, _≤_, _<_, min}
 use native.Mathlib.Decide.{decLt}
 use native.Mathlib.Omega.{arith}
@@ -19,7 +19,6 @@ use Rattle.layout.proofs.Digits.{decimal-long}
 use Rattle.layout.proofs.Writing.{written-front, written-within, front-text}
 use Rattle.text.specs.Lines.{timedText, endText}
 use Rattle.import.specs.Line.{isText, tickLimit, wordLimit, valueFrom, tickIn, wordIn, endIn, readsTimed, readsEnd, lineOf}
-use Rattle.import.specs.declared.line.Line.{Line}
 use Rattle.import.specs.declared.line.Line.the-variants.{Word, End, Other}
 
 -- the digits of a line

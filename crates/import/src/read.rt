@@ -6,11 +6,11 @@ use timed::MOST_WORDS;
 ghost use mathlib.Core.Path.{_≡_};
 ghost use mathlib.Core.List.{map};
 ghost use Prim.Native.Nat.{_+_, _≤_, _<_};
-ghost use lib.ListN.{length, take, drop, set};
+ghost use lib.ListN.{length, drop, set};
 ghost use lib.Seq.{sets};
 ghost use Rattle.timed.specs.List.{mostWords};
 ghost use Rattle.import.specs.FirstLine.{firstLine};
-ghost use Rattle.import.specs.Read.{noHeadLine, noWordLine, notRising, tooManyWords, afterEnd, tooLong, mostBytes, lines, begin, next, fault, byLine, judged, readOf, answerBy, importOf, importNumber, importLine, wordOf, tickOf, wordLinesIn, wordsIn, ticksIn, importAfter};
+ghost use Rattle.import.specs.Read.{mostBytes, lines, begin, next, fault, byLine, judged, readOf, answerBy, importOf, importNumber, importLine, wordOf, tickOf, wordLinesIn, wordsIn, ticksIn, importAfter};
 
 // The most bytes of a text.
 pub const MOST_BYTES: usize = 8192;
