@@ -13,3 +13,4 @@ pub mod Values
 pub mod Printed
 pub mod PlanWords
 pub mod Round
+pub mod Exact
