@@ -9,7 +9,8 @@ ghost use Rattle.head.specs.Limits.{stepTicks};
 ghost use Rattle.layout.specs.Written.{Written};
 ghost use Rattle.registers.specs.Settings.{mirrorShown, irShown, ccdShown, lampsShown, mirrorText, irText, ccdText, lampsText, settingsText, pairText};
 
-fn wide(register: u16) -> u64
+// A register as a value of a template.
+pub fn wide(register: u16) -> u64
     ensures { λ r. ⌜ r ≡ register ⌝ }
 {
     register as u64

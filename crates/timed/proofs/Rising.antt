@@ -6,7 +6,7 @@ use mathlib.Core.List.{List, [], _∷_}
 use Prim.Native.Nat.{ℕ, _+_, _≤_, _<_}
 use native.Mathlib.Numerals.{add-one}
 use native.Mathlib.Omega.{arith}
-use borrow.Author.Tests.{lt-ltb, le-ltb, eq-eqb, ne-eqb, eqb-true, le-leb, lt-leb}
+use borrow.Author.Tests.{lt-ltb, le-ltb, eq-eqb, ne-eqb, eqb-true, leb-true, le-leb, lt-leb}
 use lib.Dec.{eqb, leb, ltb}
 use lib.ListN.{length, getD, drop, length-drop}
 use lib.Seq.{drop-cons}
@@ -68,6 +68,9 @@ module _ (ws ts : List ℕ) (h : isList ws ts ≡ true) where
       let few = leb (length ws) mostWords in
       eqb-true (length ws) (length ts) (and-left even few (and-left (even && few) (rising ts) h))
 
-  pub list-rises : rising ts ≡ true
+  pub list-few : length ws ≤ mostWords
   unfolding isList
-  list-rises = and-right (eqb (length ws) (length ts) && leb (length ws) mostWords) (rising ts) h
+  list-few =
+      let even = eqb (length ws) (length ts) in
+      let few = leb (length ws) mostWords in
+      leb-true (length ws) mostWords (and-right even few (and-left (even && few) (rising ts) h))

@@ -1,0 +1,5 @@
+pub mod Meanings
+pub mod Noting
+pub mod Wording
+pub mod Counting
+pub mod Ending
