@@ -2,7 +2,7 @@
 -- Assumes nothing.
 use Prim.Native.Nat.{ℕ, _+_}
 use Prim.Native.Char.{code}
-use mathlib.Core.Bool.{true, false, cond, not}
+use mathlib.Core.Bool.{true, false, cond, not, _&&_}
 use mathlib.Core.List.{List, [], _∷_, map}
 use lib.Dec.{eqb, leb, ltb}
 use lib.ListN.{length, take, drop}
@@ -14,7 +14,7 @@ use Rattle.import.specs.declared.line.Line.{Line}
 use Rattle.import.specs.declared.line.Line.the-variants.{Word, End, Other}
 use Rattle.import.specs.declared.read.Progress.{Progress}
 use Rattle.import.specs.declared.read.Import.{Import}
-use Rattle.import.specs.declared.read.Import.the-variants.{Done, Refused}
+use Rattle.import.specs.declared.read.Import.the-variants.{Done, Refused, Short}
 
 -- The numbers of the reasons; they are ours, past those of documents 01 and 02.
 abbrev pub noHeadLine : ℕ
@@ -98,17 +98,30 @@ answerBy p =
 unfoldable pub importOf : List ℕ → Import
 importOf text = cond (ltb mostBytes (length text)) (Refused tooLong (length (lines (take (mostBytes + 1) text)))) (answerBy (readOf text))
 
+-- The same with two buffers of so many places: one that has fewer than there are words is judged last.
+unfoldable pub withRoom : Import → ℕ → ℕ → Import
+withRoom (Done n) a b = cond (leb n a && leb n b) (Done n) (Short n)
+withRoom (Refused n l) a b = Refused n l
+withRoom (Short n) a b = Short n
+
+unfoldable pub importInto : List ℕ → ℕ → ℕ → Import
+importInto text a b = withRoom (importOf text) a b
+
+-- The number of each answer; document 01's 10 is that of a short buffer.
 abbrev pub importNumber : Import → ℕ
 importNumber (Done n) = 0
 importNumber (Refused n l) = n
+importNumber (Short n) = 10
 
 abbrev pub importLine : Import → ℕ
 importLine (Done n) = 0
 importLine (Refused n l) = l
+importLine (Short n) = 0
 
 abbrev pub importCount : Import → ℕ
 importCount (Done n) = n
 importCount (Refused n l) = 0
+importCount (Short n) = n
 
 abbrev pub wordOf : Line → ℕ
 wordOf (Word t w) = w
@@ -130,6 +143,8 @@ wordsIn text = map wordOf (wordLinesIn (importCount (importOf text)) text)
 unfoldable pub ticksIn : List ℕ → List ℕ
 ticksIn text = map tickOf (wordLinesIn (importCount (importOf text)) text)
 
--- A list's numbers fill the first places; a refusal writes nothing, since it has none.
-abbrev pub importAfter : List ℕ → List ℕ → List ℕ
-importAfter numbers old = sets old 0 numbers
+-- A list's numbers fill the first places only; otherwise nothing is written.
+unfoldable pub importAfter : Import → List ℕ → List ℕ → List ℕ
+importAfter (Done n) numbers old = sets old 0 numbers
+importAfter (Refused n l) numbers old = old
+importAfter (Short n) numbers old = old

@@ -10,7 +10,7 @@ ghost use lib.ListN.{length, drop, set};
 ghost use lib.Seq.{sets};
 ghost use Rattle.timed.specs.List.{mostWords};
 ghost use Rattle.import.specs.FirstLine.{firstLine};
-ghost use Rattle.import.specs.Read.{mostBytes, lines, begin, next, fault, byLine, judged, readOf, answerBy, importOf, importNumber, importLine, wordOf, tickOf, wordLinesIn, wordsIn, ticksIn, importAfter};
+ghost use Rattle.import.specs.Read.{mostBytes, lines, begin, next, fault, byLine, judged, readOf, answerBy, importOf, importInto, importNumber, importLine, wordOf, tickOf, wordLinesIn, wordsIn, ticksIn, importAfter};
 
 // The most bytes of a text.
 pub const MOST_BYTES: usize = 8192;
@@ -28,6 +28,9 @@ pub const AFTER_END: u8 = 95;
 
 pub const TOO_LONG: u8 = 96;
 
+// Document 01's number of a short buffer.
+pub const SHORT: u8 = 10;
+
 const NEWLINE: u8 = b'\n';
 
 pub enum Import {
@@ -35,6 +38,8 @@ pub enum Import {
     Done { count: usize },
     // The number of the reason, and the line, counted from 1.
     Refused { number: u8, line: usize },
+    // A buffer has fewer places than there are words.
+    Short { count: usize },
 }
 
 impl Import {
@@ -45,6 +50,7 @@ impl Import {
         match self {
             Import::Done { count: _ } => 0,
             Import::Refused { number, line: _ } => number,
+            Import::Short { count: _ } => SHORT,
         }
     }
 
@@ -55,6 +61,7 @@ impl Import {
         match self {
             Import::Done { count: _ } => 0,
             Import::Refused { number: _, line } => line,
+            Import::Short { count: _ } => 0,
         }
     }
 }
@@ -239,8 +246,8 @@ fn tick_of(line: Line) -> u32
 }
 
 // The word and tick of a line at a place.
-fn put_line(words: &mut [u16; MOST_WORDS], ticks: &mut [u32; MOST_WORDS], i: usize, line: Line)
-    requires { ⌜ i < mostWords ⌝ }
+fn put_line(words: &mut [u16], ticks: &mut [u32], i: usize, line: Line)
+    requires { ⌜ i < length (now words) ⌝ ∗ ⌜ i < length (now ticks) ⌝ }
     ensures { λ _. ⌜ now (words .exit) ≡ set (now (words .entry)) i (wordOf line) ⌝ }
     ensures { λ _. ⌜ now (ticks .exit) ≡ set (now (ticks .entry)) i (tickOf line) ⌝ }
 {
@@ -249,8 +256,8 @@ fn put_line(words: &mut [u16; MOST_WORDS], ticks: &mut [u32; MOST_WORDS], i: usi
 }
 
 // The words and ticks of so many lines after the first.
-fn fill(text: &[u8], count: usize, words: &mut [u16; MOST_WORDS], ticks: &mut [u32; MOST_WORDS])
-    requires { ⌜ count ≤ mostWords ⌝ }
+fn fill(text: &[u8], count: usize, words: &mut [u16], ticks: &mut [u32])
+    requires { ⌜ count ≤ length (now words) ⌝ ∗ ⌜ count ≤ length (now ticks) ⌝ }
     ensures { λ _. ⌜ now (words .exit) ≡ sets (now (words .entry)) 0 (map wordOf (wordLinesIn count (now (text .entry)))) ⌝ }
     ensures { λ _. ⌜ now (ticks .exit) ≡ sets (now (ticks .entry)) 0 (map tickOf (wordLinesIn count (now (text .entry)))) ⌝ }
 {
@@ -264,22 +271,23 @@ fn fill(text: &[u8], count: usize, words: &mut [u16; MOST_WORDS], ticks: &mut [u
     }
 }
 
-// Reads a list from text. A refusal writes nothing, and success fills the first places only.
-pub fn read_list(
-    text: &[u8],
-    words: &mut [u16; MOST_WORDS],
-    ticks: &mut [u32; MOST_WORDS],
-) -> Import
-    ensures { λ r. ⌜ r ≡ importOf (now (text .entry)) ⌝ }
-    ensures { λ r. ⌜ now (words .exit) ≡ importAfter (wordsIn (now (text .entry))) (now (words .entry)) ⌝ }
-    ensures { λ r. ⌜ now (ticks .exit) ≡ importAfter (ticksIn (now (text .entry))) (now (ticks .entry)) ⌝ }
+// Reads a list from text into two lent buffers. A refusal writes nothing, and success fills the first places only.
+pub fn read_list(text: &[u8], words: &mut [u16], ticks: &mut [u32]) -> Import
+    ensures { λ r. ⌜ r ≡ importInto (now (text .entry)) (length (now (words .entry))) (length (now (ticks .entry))) ⌝ }
+    ensures { λ r. ⌜ now (words .exit) ≡ importAfter r (wordsIn (now (text .entry))) (now (words .entry)) ⌝ }
+    ensures { λ r. ⌜ now (ticks .exit) ≡ importAfter r (ticksIn (now (text .entry))) (now (ticks .entry)) ⌝ }
 {
     let answer = checked(text);
     match answer {
         Import::Done { count } => {
+            let fits = (count <= words.len()) & (count <= ticks.len());
+            if !fits {
+                return Import::Short { count };
+            }
             fill(text, count, words, ticks);
-            answer
+            Import::Done { count }
         }
-        Import::Refused { number: _, line: _ } => answer,
+        Import::Refused { number, line } => Import::Refused { number, line },
+        Import::Short { count } => Import::Short { count },
     }
 }

@@ -3,3 +3,4 @@ pub mod Noting
 pub mod Wording
 pub mod Counting
 pub mod Ending
+pub mod Fitting

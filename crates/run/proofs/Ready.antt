@@ -187,7 +187,7 @@ accepted-ready s bs os fits none e =
     rw e (at-once s fits (scheduleFrom s 0 (itemsOfAll os) .list) 0 (items-ready (plan .turn 0) (plan .holds) s i 0))
 
 -- and so from power-on
-power-on-fit : fit powerOn ≡ true
+pub power-on-fit : fit powerOn ≡ true
 unfolding fit isBusy busyTicks atRest
 power-on-fit = rw power-on-range
 

@@ -1,9 +1,9 @@
--- `import::read::fill` meets its contract. The loop's invariant: i lines have been laid, and those from a place on are left.
+-- `import::read::fill` meets its contract. The loop's invariant: i lines have been stored, and those from a place on are left.
 -- Assumes nothing.
 use Prim.Native.Nat.{_-_}
 use native.Mathlib.Omega.{arith}
 use Rattle.import.proofs.Lines.{first-short, ends-within}
-use Rattle.import.proofs.Filling.{Filling, filling-first, more-text, place-free, words-less, filling-next, filled-words, filled-ticks}
+use Rattle.import.proofs.Filling.{Filling, at-first, at-next, filling-first, more-text, word-free, tick-free, words-less, filling-next, filled-words, filled-ticks}
 use borrow.Author.Needs.{needs}
 use Rattle.import.proofs.read.fill.Statement.{statement}
 use Rattle.import.proofs.read.fill.Tie as tie
@@ -18,7 +18,7 @@ line-end-requires : tie.Need-line-end-requires Inv-loop μ-loop
 line-end-requires c κs = search needs
 
 add-at : tie.Need-add-at Inv-loop μ-loop
-add-at c = let short = first-short (c .before .before .args .text .now) in let is = c .line-end .ensures in omega arith
+add-at c = let within = at-first _ (c .line-end .ensures) in omega arith
 
 loop-holds : tie.Need-loop-holds Inv-loop μ-loop
 loop-holds c = search (needs, filling-first)
@@ -39,10 +39,10 @@ line-of-requires : tie.Need-line-of-requires Inv-loop μ-loop
 line-of-requires c κs = search needs
 
 put-line-requires : tie.Need-put-line-requires Inv-loop μ-loop
-put-line-requires c κs = search (needs, place-free)
+put-line-requires c κs = search (needs, word-free, tick-free)
 
 add-at-2 : tie.Need-add-at-2 Inv-loop μ-loop
-add-at-2 c = let more = more-text (c .before .before .before .before .before .before .before .loop .inv) (c .before .before .before .before .before .before .loop-test .taken) in let short = ends-within _ more (c .before .before .before .before .before .line-end2 .ensures) in omega arith
+add-at-2 c = let within = at-next (c .before .before .before .before .before .before .before .before .before .before .before .loop .inv) (c .before .before .before .before .before .before .before .before .before .before .loop-test .taken) (c .before .before .before .before .before .before .before .before .before .line-end2 .ensures) in omega arith
 
 add-i : tie.Need-add-i Inv-loop μ-loop
 add-i c = search needs
@@ -52,6 +52,12 @@ loop-less c = search (needs, words-less)
 
 loop-again : tie.Need-loop-again Inv-loop μ-loop
 loop-again c = search (needs, filling-next)
+
+same-length : tie.Need-same-length Inv-loop μ-loop
+same-length c = search needs
+
+same-length-2 : tie.Need-same-length-2 Inv-loop μ-loop
+same-length-2 c = search needs
 
 returns : tie.Need-returns Inv-loop μ-loop
 returns c = (search (needs, filled-words), search (needs, filled-ticks))
@@ -75,4 +81,6 @@ fill-spec =
     add-i
     loop-less
     loop-again
+    same-length
+    same-length-2
     returns)

@@ -10,8 +10,8 @@ word-of-requires c κs = search needs
 mul-words : tie.Need-mul-words
 mul-words c = search needs
 
-element-write-words : tie.Need-element-write-words
-element-write-words c = search needs
+slice-write-words : tie.Need-slice-write-words
+slice-write-words c = search needs
 
 tick-of-requires : tie.Need-tick-of-requires
 tick-of-requires c κs = search needs
@@ -19,8 +19,14 @@ tick-of-requires c κs = search needs
 mul-ticks : tie.Need-mul-ticks
 mul-ticks c = search needs
 
-element-write-ticks : tie.Need-element-write-ticks
-element-write-ticks c = search needs
+slice-write-ticks : tie.Need-slice-write-ticks
+slice-write-ticks c = search needs
+
+same-length : tie.Need-same-length
+same-length c = search needs
+
+same-length-2 : tie.Need-same-length-2
+same-length-2 c = search needs
 
 returns : tie.Need-returns
 returns c = (rw (c .before .word-of .ensures), rw (c .tick-of .ensures))
@@ -31,8 +37,10 @@ put-line-spec =
     (tie.spec
     word-of-requires
     mul-words
-    element-write-words
+    slice-write-words
     tick-of-requires
     mul-ticks
-    element-write-ticks
+    slice-write-ticks
+    same-length
+    same-length-2
     returns)
