@@ -1,0 +1,124 @@
+-- The ways through `printed`, by the answer of `read_list`.
+-- Assumes nothing.
+use mathlib.Core.Path.{_≡_, refl, sym, ap, _∙_}
+use mathlib.Core.Bool.{Bool, true, false, cond}
+use mathlib.Core.List.{List, [], _∷_, _++_}
+use Prim.Native.Nat.{ℕ, _-_, _≤_, min}
+use native.Mathlib.Nat.{zero-add}
+use native.Mathlib.Omega.{arith}
+use borrow.Author.Tests.{le-leb}
+use lib.ListN.{length, take, drop, length-replicate}
+use lib.Seq.{sets, length-sets, take-at, length-take-le}
+use Rattle.timed.specs.List.{isList}
+use Rattle.layout.specs.Numbers.{ascii}
+use Rattle.layout.specs.Written.{Written, Front}
+use Rattle.layout.specs.Template.{layout}
+use Rattle.layout.proofs.Overwriting.{sets-front}
+use Rattle.layout.proofs.Writing.{written-none, written-front}
+use Rattle.layout.proofs.Widths.{layout-few}
+use Rattle.import.specs.Read.{importOf, withRoom, wordsIn, ticksIn, importInto, importAfter}
+use Rattle.import.specs.declared.read.Import.{Import}
+use Rattle.import.specs.declared.read.Import.the-variants.{Done, Refused, Short}
+use Rattle.import.proofs.Lists.{import-words, import-ticks, import-list}
+use Rattle.inspection.specs.Inspection.{inspectionText, countsOf, inspectedOf, inspectionAfter}
+use Rattle.inspection.specs.declared.counts.Counts.{Counts}
+use Rattle.inspection.specs.declared.inspection.Inspected.{Inspected}
+use Rattle.inspection.specs.declared.inspection.Inspected.the-variants as inspected
+use Rattle.inspection.proofs.Fitting.{inspection-fits}
+use Rattle.imported.specs.Printed.{refusalTemplate, reasonIndex, refusalText, printedBy, printedFor}
+
+-- the inspection of a list stands at the front
+module _ (ws ts : List ℕ) (fits : isList ws ts ≡ true) (old : List ℕ) (room : length old ≡ 262144) {a : Inspected} (answer : a ≡ inspectedOf ws ts (length old))
+    {new : List ℕ} (after : new ≡ inspectionAfter a (inspectionText ws ts) old) where
+  answered : a ≡ inspected.Done (min (length (inspectionText ws ts)) (length old)) (countsOf ws ts)
+  unfolding inspectedOf
+  answered = answer ∙ rw fits
+
+  pub inspected-done : {n : ℕ} {c : Counts} → a ≡ inspected.Done n c → Front old (inspectionText ws ts) n new
+  unfolding inspectionAfter
+  inspected-done {n} {c} done =
+      let is : inspected.Done n c ≡ inspected.Done (min (length (inspectionText ws ts)) (length old)) (countsOf ws ts) = sym done ∙ answered in
+      let place : n ≡ min (length (inspectionText ws ts)) (length old) = cc in
+      written-front (record { place = omega arith; bytes = after ∙ rw done }) (omega (arith, inspection-fits ws ts fits))
+
+  pub inspected-never : a ≡ inspected.Refused → {n : ℕ} → Front old (inspectionText ws ts) n new
+  inspected-never done =
+      let is : inspected.Refused ≡ inspected.Done (min (length (inspectionText ws ts)) (length old)) (countsOf ws ts) = sym done ∙ answered in
+      let z : _≡_ {A = ℕ} 0 1 = cc in
+      absurd (omega arith)
+
+pub written-refusal : (number line : ℕ) {i : ℕ} → i ≡ reasonIndex number → {l : List ℕ} {at p : ℕ} {m : List ℕ}
+    → Written l at (layout refusalTemplate (number ∷ i ∷ line ∷ []) []) p m → Written l at (refusalText number line) p m
+unfolding refusalText
+written-refusal number line is w = rw is at w
+
+refusal-few : (number line : ℕ) → length (refusalText number line) ≤ 262144
+unfolding refusalText refusalTemplate ascii
+refusal-few number line = omega (arith, layout-few refusalTemplate (number ∷ reasonIndex number ∷ line ∷ []) [])
+
+-- the numbers of a list that was read, in the first places of a buffer
+front-read : (numbers old : List ℕ) (n : ℕ) → length numbers ≡ n → n ≤ length old → take n (importAfter (Done n) numbers old) ≡ numbers
+unfolding importAfter
+front-read numbers old n long room =
+    ap (take n) (sets-front numbers old (omega arith)) ∙ take-at numbers (drop (length numbers) old) n long
+
+-- with room for 256 words in both buffers the answer is that of the text
+room-enough : (a : Import) → ((n : ℕ) → a ≡ Done n → n ≤ 256) → withRoom a 256 256 ≡ a
+unfolding withRoom
+room-enough (Done n) few = let h = few n refl in rw (le-leb n 256 h)
+room-enough (Refused n l) few = refl
+room-enough (Short n) few = refl
+
+module _ (text : List ℕ) {a : Import} (W T : List ℕ) (roomW : length W ≡ 256) (roomT : length T ≡ 256)
+    (into : a ≡ importInto text (length W) (length T)) where
+  answer : a ≡ importOf text
+  unfolding importInto
+  answer = into ∙ rw (roomW, roomT) (room-enough (importOf text) (λ n e. import-list text e .1 .1))
+
+  module _ {n : ℕ} (done : a ≡ Done n) where
+    read : importOf text ≡ Done n
+    read = sym answer ∙ done
+
+    few : n ≤ 256
+    few = import-list text read .1 .1
+
+    module _ {W' : List ℕ} (words : W' ≡ importAfter a (wordsIn text) W) {T' : List ℕ} (ticks : T' ≡ importAfter a (ticksIn text) T) where
+      pub words-room : n ≤ length W'
+      unfolding importAfter
+      words-room =
+          let is : W' ≡ sets W 0 (wordsIn text) = words ∙ rw done in
+          omega (arith, ap length is, length-sets W 0 (wordsIn text), few)
+
+      pub ticks-room : n ≤ length T'
+      unfolding importAfter
+      ticks-room =
+          let is : T' ≡ sets T 0 (ticksIn text) = ticks ∙ rw done in
+          omega (arith, ap length is, length-sets T 0 (ticksIn text), few)
+
+      words-are : take n W' ≡ wordsIn text
+      words-are = ap (take n) (words ∙ rw done) ∙ front-read (wordsIn text) W n (import-words text read) (omega (arith, few))
+
+      ticks-are : take n T' ≡ ticksIn text
+      ticks-are = ap (take n) (ticks ∙ rw done) ∙ front-read (ticksIn text) T n (import-ticks text read) (omega (arith, few))
+
+      pub read-list : isList (take n W') (take n T') ≡ true
+      read-list = rw (words-are, ticks-are) (import-list text read .0)
+
+      pub printed-done : (old : List ℕ) {k : ℕ} {new : List ℕ} → Front old (inspectionText (take n W') (take n T')) k new → Front old (printedFor text) k new
+      unfolding printedFor printedBy
+      printed-done old f = rw (read, ← words-are, ← ticks-are) f
+
+  pub printed-refused : {number line : ℕ} → a ≡ Refused number line → (old : List ℕ) → length old ≡ 262144
+      → {k : ℕ} {new : List ℕ} → Written old 0 (refusalText number line) k new
+      → Front old (printedFor text) k new
+  unfolding printedFor printedBy
+  printed-refused {number} {line} refusal old room w =
+      rw (← answer, refusal) (written-front w (omega (arith, refusal-few number line)))
+
+  pub printed-short : {n : ℕ} → a ≡ Short n → (old : List ℕ) → Front old (printedFor text) 0 old
+  unfolding printedFor printedBy
+  printed-short short old = rw (← answer, short) (written-front (written-none (omega arith)) (omega arith))
+
+-- so many first places
+pub first-long : (l : List ℕ) (n : ℕ) → n ≤ length l → n ≡ length (take n l)
+first-long l n h = sym (length-take-le n l h)

@@ -1,0 +1,3 @@
+// An imported list: read from text, and inspected.
+pub mod printed;
+pub mod refusal;
