@@ -14,3 +14,4 @@ pub mod Printed
 pub mod PlanWords
 pub mod Round
 pub mod Exact
+pub mod Places

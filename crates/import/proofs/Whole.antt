@@ -37,7 +37,7 @@ same-line p (End t) = go (ltb t (p .least))
     go false = refl
 same-line p Other = refl
 
-one-line : (p : Progress) (l : List ℕ) → (judged p l) .line ≤ p .line + 1
+pub one-line : (p : Progress) (l : List ℕ) → (judged p l) .line ≤ p .line + 1
 unfolding judged
 one-line p l = go (eqb (p .number) 0) (eqb (p .line) 0) (isText l headText) (p .ended)
   where

@@ -3,7 +3,7 @@
 use mathlib.Core.Path.{_≡_, refl, sym, ap, _∙_}
 use mathlib.Core.Bool.{Bool, true, false, not, _&&_}
 use mathlib.Core.List.{List, [], _∷_}
-use Prim.Native.Nat.{ℕ, _+_, _≤_, _<_}
+use Prim.Native.Nat.{ℕ, suc, _+_, _≤_, _<_}
 use native.Mathlib.Numerals.{add-one}
 use native.Mathlib.Omega.{arith}
 use lib.Dec.{ltb}
@@ -19,7 +19,7 @@ use Rattle.head.specs.declared.state.Head.{Head}
 use Rattle.layout.specs.Numbers.{bit}
 use Rattle.inspection.specs.Notes.{isExposure}
 use Rattle.inspection.specs.Rows.{numberOf}
-use Rattle.inspection.specs.Counts.{none, counted, countsFrom}
+use Rattle.inspection.specs.Counts.{none, counted, countsFrom, findings}
 use Rattle.inspection.specs.declared.counts.Counts.{Counts}
 
 -- no count is above i
@@ -115,3 +115,29 @@ module _ {ws ts : List ℕ} where
     pub counts-all : length ws ≤ i → c ≡ countsFrom none ws ts powerOn
     unfolding countsFrom
     counts-all all = sym (h .left ∙ ap (λ (l : List ℕ). countsFrom c l (drop i ts) s) (drop-of-length-le ws {i = i} all))
+
+-- no count is above the number of words
+few-more : (c : Counts) (i j : ℕ) → i ≤ j → Few c i → Few c j
+few-more c i j h few =
+    record {
+      ignored = omega (arith, h, few .ignored);
+      exposures = omega (arith, h, few .exposures);
+      incomplete = omega (arith, h, few .incomplete);
+      moving = omega (arith, h, few .moving);
+    }
+
+counts-few : (c : Counts) (i : ℕ) (ws ts : List ℕ) (s : Head) → Few c i → Few (countsFrom c ws ts s) (i + length ws)
+unfolding countsFrom
+counts-few c i [] ts s h = few-more c i (i + 0) (omega arith) h
+counts-few c i (w ∷ ws) [] s h = few-more c i (i + suc (length ws)) (omega arith) h
+counts-few c i (w ∷ ws) (t ∷ ts) s h =
+    let d = counted c (numberOf s w) (s .begun .count) (atRest s) in
+    let rest = counts-few d (i + 1) ws ts (stepped s w t ts) (few-counted c i (numberOf s w) (s .begun .count) (atRest s) h) in
+    few-more (countsFrom d ws ts (stepped s w t ts)) (i + 1 + length ws) (i + suc (length ws)) (omega arith) rest
+
+pub findings-few : (ws ts : List ℕ) → isList ws ts ≡ true → findings (countsFrom none ws ts powerOn) ≤ 768
+unfolding findings
+findings-few ws ts fits =
+    let start : Few none 0 = record { ignored = omega arith; exposures = omega arith; incomplete = omega arith; moving = omega arith } in
+    let few = counts-few none 0 ws ts powerOn start in
+    omega (arith, few .ignored, few .incomplete, few .moving, list-few ws ts fits)

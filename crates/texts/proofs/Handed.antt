@@ -14,24 +14,28 @@ use Rattle.layout.specs.Written.{Written, Front}
 use Rattle.layout.proofs.Writing.{written-front, front-text}
 use Rattle.interface.specs.State.{wellFormed}
 use Rattle.interface.specs.Plans.{packed}
-use Rattle.texts.specs.Texts.{hasRoom, textAfter, roomAnswer, textAnswer, isPut, numberFor, placeFor}
+use Rattle.texts.specs.Texts.{hasRoom, textAfter, countedAnswer, roomAnswer, textAnswer, isPut, numberFor, placeFor}
 
--- the ways through `hand_over`
-module _ (made old : List ℕ) where
+-- the ways through `hand_over_counted`
+module _ (made old : List ℕ) (count : ℕ) where
   module _ (less : length old < length made) where
-    pub no-room-answer : {r : ℕ} → r ≡ packed 10 0 (length made) → r ≡ roomAnswer made old
-    unfolding roomAnswer
+    pub no-room-answer : {r : ℕ} → r ≡ packed 10 count (length made) → r ≡ countedAnswer count made old
+    unfolding countedAnswer
     no-room-answer is = is ∙ rw (lt-leb (length made) (length old) less)
 
+  module _ (most : length made ≤ length old) where
+    pub room-answer : {r : ℕ} → r ≡ packed 0 count (length made) → r ≡ countedAnswer count made old
+    unfolding countedAnswer
+    room-answer is = is ∙ rw (le-leb (length made) (length old) most)
+
+-- the bytes that are left
+module _ (made old : List ℕ) where
+  module _ (less : length old < length made) where
     pub no-room-left : old ≡ textAfter (hasRoom made old) made old
     unfolding textAfter
     no-room-left = rw (lt-leb (length made) (length old) less)
 
   module _ (most : length made ≤ length old) where
-    pub room-answer : {r : ℕ} → r ≡ packed 0 0 (length made) → r ≡ roomAnswer made old
-    unfolding roomAnswer
-    room-answer is = is ∙ rw (le-leb (length made) (length old) most)
-
     pub room-after : {k : ℕ} {new : List ℕ} → Written old 0 made k new → new ≡ textAfter (hasRoom made old) made old
     unfolding textAfter
     room-after w =

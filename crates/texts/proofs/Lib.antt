@@ -3,3 +3,4 @@ pub mod Handed
 pub mod Listing
 pub mod Reporting
 pub mod Wording
+pub mod Reading

@@ -1,4 +1,4 @@
--- The ways through `put_wording` and the exported refusal: m is the array in which the words are put, old the caller's.
+-- Words handed over, and the exported refusal: m is the array in which the words are put, old the caller's.
 -- Assumes nothing.
 use mathlib.Core.Path.{_≡_}
 use mathlib.Core.Bool.{true, false, cond, not, _&&_}
@@ -13,44 +13,47 @@ use Rattle.layout.proofs.Writing.{written-front, front-text}
 use Rattle.report.specs.Refusal.{refusalText}
 use Rattle.report.proofs.Fitting.{refusal-fits}
 use Rattle.texts.specs.Texts.{hasRoom, textAfter, isRefusal, refusalLength, refusalLeft}
-use Rattle.texts.proofs.Handed.{no-room-left, room-after}
 
+-- the ways through `hand_over_wording`
+module _ (made old : List ℕ) where
+  pub unworded-answer : length old < length made → 0 ≡ cond (hasRoom made old) (length made) 0
+  unworded-answer less = rw (lt-leb (length made) (length old) less)
+
+  module _ (most : length made ≤ length old) {k : ℕ} {new : List ℕ} (put : Written old 0 made k new) where
+    pub worded-answer : k ≡ cond (hasRoom made old) (length made) 0
+    worded-answer = rw (le-leb (length made) (length old) most) (written-front put most .long)
+
+    pub worded-small : length made < 2 ^ 32 → k < 2 ^ 32
+    worded-small small = omega (arith, written-front put most .long)
+
+-- words that were made at the front of an array, and are handed over
+module _ (text : List ℕ) {m : List ℕ} {n : ℕ} {made : List ℕ} (front : Front m text n made) (old : List ℕ) where
+  pub handed-length : {r : ℕ} → r ≡ cond (hasRoom (take n made) old) (length (take n made)) 0 → r ≡ cond (hasRoom text old) (length text) 0
+  handed-length is = rw (front-text front) at is
+
+  pub handed-left : {new : List ℕ} → new ≡ textAfter (hasRoom (take n made) old) (take n made) old → new ≡ textAfter (hasRoom text old) text old
+  handed-left is = rw (front-text front) at is
+
+-- a refusal of a plan in an array of 1,024 places
 module _ (number place : ℕ) (bs : List ℕ) {m : List ℕ} {n : ℕ} {made : List ℕ} (w : Written m 0 (refusalText number place bs) n made)
     (whole : length m ≡ 1024) where
-  abbrev text : List ℕ
-  text = refusalText number place bs
-
-  front : Front m text n made
-  front = written-front w (omega (arith, refusal-fits number place bs))
+  wording-front : Front m (refusalText number place bs) n made
+  wording-front = written-front w (omega (arith, refusal-fits number place bs))
 
   pub worded-count : n ≡ length (take n made)
-  worded-count = front .counts .1
+  worded-count = wording-front .counts .1
 
-  module _ (old : List ℕ) (less : length old < n) where
-    short : length old < length text
-    short = rw (← front .long) less
+  pub worded-few : length (take n made) < 2 ^ 32
+  worded-few = rw (front-text wording-front) (omega (arith, refusal-fits number place bs))
 
-    pub unworded-answer : 0 ≡ cond (hasRoom text old) (length text) 0
-    unworded-answer = rw (lt-leb (length text) (length old) short)
+  module _ (old : List ℕ) where
+    pub worded-length : {r : ℕ} → r ≡ cond (hasRoom (take n made) old) (length (take n made)) 0
+        → r ≡ cond (hasRoom (refusalText number place bs) old) (length (refusalText number place bs)) 0
+    worded-length = handed-length (refusalText number place bs) wording-front old
 
-    pub unworded-left : old ≡ textAfter (hasRoom text old) text old
-    unworded-left = no-room-left text old short
-
-  module _ (old : List ℕ) (most : n ≤ length old) {k : ℕ} {new : List ℕ} (put : Written old 0 (take n made) k new) where
-    enough : length text ≤ length old
-    enough = rw (← front .long) most
-
-    same : Written old 0 text k new
-    same = rw (front-text front) at put
-
-    pub worded-answer : k ≡ cond (hasRoom text old) (length text) 0
-    worded-answer = rw (le-leb (length text) (length old) enough) (written-front same enough .long)
-
-    pub worded-small : k < 2 ^ 32
-    worded-small = omega (arith, written-front same enough .long, refusal-fits number place bs)
-
-    pub worded-left : new ≡ textAfter (hasRoom text old) text old
-    worded-left = room-after text old enough same
+    pub worded-left : {new : List ℕ} → new ≡ textAfter (hasRoom (take n made) old) (take n made) old
+        → new ≡ textAfter (hasRoom (refusalText number place bs) old) (refusalText number place bs) old
+    worded-left = handed-left (refusalText number place bs) wording-front old
 
 -- the exported function
 module _ (number place : ℕ) (bs old : List ℕ) where

@@ -24,9 +24,12 @@ hasRoom text old = leb (length text) (length old)
 unfoldable pub textAfter : Bool → List ℕ → List ℕ → List ℕ
 textAfter put text old = cond put (text ++ drop (length text) old) old
 
--- The number in bits 0-7: 10 where there is no room. The length of the text in bits 32-63.
-unfoldable pub roomAnswer : List ℕ → List ℕ → ℕ
-roomAnswer text old = packed (cond (hasRoom text old) 0 10) 0 (length text)
+-- The number in bits 0-7: 10 where there is no room. A count in bits 8-23, and the length of the text in bits 32-63.
+unfoldable pub countedAnswer : ℕ → List ℕ → List ℕ → ℕ
+countedAnswer count text old = packed (cond (hasRoom text old) 0 10) count (length text)
+
+abbrev pub roomAnswer : List ℕ → List ℕ → ℕ
+roomAnswer text old = countedAnswer 0 text old
 
 -- A plan that is refused has a number of 1-9, and its byte place in bits 32-63.
 unfoldable pub textAnswer : ℕ → ℕ → List ℕ → List ℕ → ℕ

@@ -17,22 +17,30 @@ ghost use Prim.Native.Nat.{_<_, _^_};
 ghost use lib.ListN.{length};
 ghost use Rattle.head.specs.Row.{places, numbersOf};
 ghost use Rattle.report.specs.Refusal.{refusalText};
-ghost use Rattle.texts.specs.Texts.{hasRoom, textAfter, roomAnswer, listingAnswer, listingLeft, reportAnswer, reportLeft, reportState};
+ghost use Rattle.texts.specs.Texts.{hasRoom, textAfter, countedAnswer, roomAnswer, listingAnswer, listingLeft, reportAnswer, reportLeft, reportState};
 
 // Room for every refusal in words.
 const MOST_WORDING: usize = 1024;
 
-// Hands over a text; where there is no room for it, nothing is written.
+// Hands over a text and a count; where there is no room for it, nothing is written.
+pub(crate) fn hand_over_counted(made: &[u8], text: &mut [u8], count: usize) -> u64
+    requires { ⌜ length (now made) < 2 ^ 32 ⌝ ∗ ⌜ count < 2 ^ 16 ⌝ }
+    ensures { λ r. ⌜ r ≡ countedAnswer count (now (made .entry)) (now (text .entry)) ⌝ }
+    ensures { λ _. ⌜ now (text .exit) ≡ textAfter (hasRoom (now (made .entry)) (now (text .entry))) (now (made .entry)) (now (text .entry)) ⌝ }
+{
+    if text.len() < made.len() {
+        return packed(BUFFER_SHORT, count, made.len());
+    }
+    let _ = put_bytes(text, 0, made);
+    packed(0, count, made.len())
+}
+
 fn hand_over(made: &[u8], text: &mut [u8]) -> u64
     requires { ⌜ length (now made) < 2 ^ 32 ⌝ }
     ensures { λ r. ⌜ r ≡ roomAnswer (now (made .entry)) (now (text .entry)) ⌝ }
     ensures { λ _. ⌜ now (text .exit) ≡ textAfter (hasRoom (now (made .entry)) (now (text .entry))) (now (made .entry)) (now (text .entry)) ⌝ }
 {
-    if text.len() < made.len() {
-        return packed(BUFFER_SHORT, 0, made.len());
-    }
-    let _ = put_bytes(text, 0, made);
-    packed(0, 0, made.len())
+    hand_over_counted(made, text, 0)
 }
 
 // The listing of a plan for the head that the array holds.
@@ -78,6 +86,18 @@ pub(crate) fn put_report(state: &mut [u16], plan: &[u8], text: &mut [u8]) -> u64
     }
 }
 
+// Hands over words; the answer is their length, 0 where there is no room for them.
+pub(crate) fn hand_over_wording(made: &[u8], text: &mut [u8]) -> u32
+    requires { ⌜ length (now made) < 2 ^ 32 ⌝ }
+    ensures { λ r. ⌜ r ≡ cond (hasRoom (now (made .entry)) (now (text .entry))) (length (now (made .entry))) 0 ⌝ }
+    ensures { λ _. ⌜ now (text .exit) ≡ textAfter (hasRoom (now (made .entry)) (now (text .entry))) (now (made .entry)) (now (text .entry)) ⌝ }
+{
+    if text.len() < made.len() {
+        return 0;
+    }
+    put_bytes(text, 0, made) as u32
+}
+
 // A refusal in words; the answer is their length, 0 where there is no room for them.
 pub(crate) fn put_wording(number: u8, place: usize, plan: &[u8], text: &mut [u8]) -> u32
     ensures { λ r. ⌜ r ≡ cond (hasRoom (refusalText number place (now (plan .entry))) (now (text .entry))) (length (refusalText number place (now (plan .entry)))) 0 ⌝ }
@@ -85,8 +105,5 @@ pub(crate) fn put_wording(number: u8, place: usize, plan: &[u8], text: &mut [u8]
 {
     let mut made = [0u8; MOST_WORDING];
     let length = put_refusal(&mut made, 0, number, place, plan);
-    if text.len() < length {
-        return 0;
-    }
-    put_bytes(text, 0, &made[..length]) as u32
+    hand_over_wording(&made[..length], text)
 }

@@ -1,11 +1,15 @@
-// The texts of the C interface (include/shabgozim.h): the listing and the report of a plan, and a refusal in words. They stand in an
-// archive of their own, so that the calls of the other one are not slowed down by sharing functions with them.
+// The texts of the C interface (include/shabgozim.h): the listing and the report of a plan, a list read from text and inspected, and
+// refusals in words. They stand in an archive of their own, so that the calls of the other one are not slowed down by sharing functions with them.
 pub mod arrays;
 pub mod handing;
+pub mod lists;
 
+use import::read::read_list;
 use interface::state::well_formed;
 use schedule::STATE_UNFIT;
 ghost use mathlib.Core.Path.{_≡_};
+ghost use lib.ListN.{length};
+ghost use Rattle.texts.specs.Lists.{readAnswer, wordsLeft, ticksLeft, inspectionAnswer, inspectionLeft, listRefusalLength, listRefusalLeft};
 ghost use Rattle.texts.specs.Texts.{listingAnswer, listingLeft, reportAnswer, reportLeft, reportState, refusalLength, refusalLeft};
 
 // Writes the listing of a stored plan for the head in this state.
@@ -44,4 +48,36 @@ pub extern "C" fn shabgozim_refusal(number: u8, place: u32, plan: &[u8], text: &
         return 0;
     }
     handing::put_wording(number, place as usize, plan, text)
+}
+
+// Reads a list of timed words from text.
+#[no_mangle]
+pub extern "C" fn shabgozim_read_list(text: &[u8], words: &mut [u16], ticks: &mut [u32]) -> u64
+    ensures { λ r. ⌜ r ≡ readAnswer (now (text .entry)) (length (now (words .entry))) (length (now (ticks .entry))) ⌝ }
+    ensures { λ _. ⌜ now (words .exit) ≡ wordsLeft (now (text .entry)) (now (words .entry)) (now (ticks .entry)) ⌝ }
+    ensures { λ _. ⌜ now (ticks .exit) ≡ ticksLeft (now (text .entry)) (now (words .entry)) (now (ticks .entry)) ⌝ }
+{
+    lists::read_number(read_list(text, words, ticks))
+}
+
+// Writes the inspection of a list that is given to a head at power-on.
+#[no_mangle]
+pub extern "C" fn shabgozim_inspection(words: &[u16], ticks: &[u32], text: &mut [u8]) -> u64
+    ensures { λ r. ⌜ r ≡ inspectionAnswer (now (words .entry)) (now (ticks .entry)) (now (text .entry)) ⌝ }
+    ensures { λ _. ⌜ now (text .exit) ≡ inspectionLeft (now (words .entry)) (now (ticks .entry)) (now (text .entry)) ⌝ }
+{
+    lists::put_inspection(words, ticks, text)
+}
+
+// Writes a refusal of a text in words.
+#[no_mangle]
+pub extern "C" fn shabgozim_list_refusal(number: u8, line: u32, text: &mut [u8]) -> u32
+    ensures { λ r. ⌜ r ≡ listRefusalLength number line (now (text .entry)) ⌝ }
+    ensures { λ _. ⌜ now (text .exit) ≡ listRefusalLeft number line (now (text .entry)) ⌝ }
+{
+    let refusal = (91 <= number) & (number <= 96);
+    if !refusal {
+        return 0;
+    }
+    lists::put_list_wording(number, line as usize, text)
 }

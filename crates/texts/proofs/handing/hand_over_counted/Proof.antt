@@ -1,9 +1,9 @@
--- `texts::handing::hand_over` meets its contract.
+-- `texts::handing::hand_over_counted` meets its contract.
 -- Assumes nothing.
 use Rattle.texts.proofs.Handed.{no-room-answer, no-room-left, room-answer, room-after}
 use borrow.Author.Needs.{needs}
-use Rattle.texts.proofs.handing.hand_over.Statement.{statement}
-use Rattle.texts.proofs.handing.hand_over.Tie as tie
+use Rattle.texts.proofs.handing.hand_over_counted.Statement.{statement}
+use Rattle.texts.proofs.handing.hand_over_counted.Tie as tie
 
 packed-requires : tie.Need-packed-requires
 packed-requires c κs = search needs
@@ -23,7 +23,7 @@ same-length c = search needs
 returns-2 : tie.Need-returns-2
 returns-2 c = search (needs, room-answer, room-after)
 
-pub hand-over-spec : {M : Type 1} → statement M
-hand-over-spec =
+pub hand-over-counted-spec : {M : Type 1} → statement M
+hand-over-counted-spec =
     tie.close
     (tie.spec packed-requires returns put-bytes-requires packed-requires-2 same-length returns-2)
