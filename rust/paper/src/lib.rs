@@ -1,7 +1,8 @@
 //! The VIRTIS-M command words, the PEM-M head, lists of timed words, stored
 //! plans and the two housekeeping blocks, written from document 01 and
 //! document 02's request P1 alone; reports and refusals in words from their
-//! description and the stored reports.
+//! description and the stored reports; lists read from text and inspected from
+//! their description.
 //!
 //! | module | idea |
 //! |---|---|
@@ -15,6 +16,8 @@
 //! | [`run`](mod@run) | a head driven through timed words, tick by tick |
 //! | [`blocks`] | the two housekeeping blocks, written and read |
 //! | [`listing`](mod@listing) | the printed form of a translation |
+//! | [`text_list`] | a list read from its printed form |
+//! | [`inspection`](mod@inspection) | a list word by word, laid out for reading |
 //! | [`report`](mod@report) | what a head does with a plan, laid out for reading |
 //! | `in_words` | a refusal of a plan in words |
 
@@ -23,6 +26,7 @@
 pub mod blocks;
 pub mod head;
 mod in_words;
+pub mod inspection;
 pub mod list;
 pub mod listing;
 pub mod plan;
@@ -30,6 +34,7 @@ pub mod reading;
 pub mod report;
 pub mod run;
 pub mod state;
+pub mod text_list;
 pub mod translate;
 pub mod words;
 
@@ -37,6 +42,7 @@ pub use blocks::{
     read_ccd, read_ir, write_ccd, write_ir, BlockRefusal, CcdMeaning, IrCallerBits, IrMeaning,
 };
 pub use head::{receive, tick, word, Act, Cause, Outcome, Task, Ticked};
+pub use inspection::{inspection, Inspection};
 pub use list::list;
 pub use listing::listing;
 pub use plan::{CoverMove, Order, Refusal};
@@ -44,5 +50,6 @@ pub use reading::{read_plan, LoggedAct, Reading};
 pub use report::report;
 pub use run::{run, Checks, Run};
 pub use state::{in_range, power_on, ErrorFlags, MirrorSet, Settings, State};
+pub use text_list::{read_list, TextList, TextRefusal};
 pub use translate::{translate, Translated, Translation};
 pub use words::{decode, encode, Decoded, Kind};

@@ -7,7 +7,7 @@ use crate::state::{in_range, State};
 pub const MOST_LIST_WORDS: usize = 256;
 
 const DONE: u16 = 0;
-const NO_LIST: u16 = 31;
+pub const NO_LIST: u16 = 31;
 
 /// After the last word its own tick passes.
 const LAST_GAP: u32 = 1;
@@ -26,13 +26,18 @@ pub fn list(state: &mut State, words: &[u16], ticks: &[u32], outcomes: &mut [u16
     if !is_list(words, ticks) || outcomes.len() < words.len() {
         return NO_LIST;
     }
-    let gaps = ticks.windows(2).map(|pair| pair[1] - pair[0]);
-    let steps = words.iter().zip(gaps.chain([LAST_GAP]));
+    let steps = words.iter().zip(gaps(ticks));
     for ((&code, gap), outcome) in steps.zip(outcomes) {
         *outcome = word(state, code);
         pass(state, gap);
     }
     DONE
+}
+
+/// How many ticks pass after each word.
+pub fn gaps(ticks: &[u32]) -> impl Iterator<Item = u32> + '_ {
+    let between = ticks.windows(2).map(|pair| pair[1] - pair[0]);
+    between.chain([LAST_GAP])
 }
 
 /// Lets so many ticks pass, one after another. A tick that leaves the state
@@ -47,7 +52,8 @@ pub fn pass(state: &mut State, ticks: u32) {
     }
 }
 
-fn is_list(words: &[u16], ticks: &[u32]) -> bool {
+/// As many words as ticks, not too many, the ticks rising.
+pub fn is_list(words: &[u16], ticks: &[u32]) -> bool {
     words.len() == ticks.len()
         && words.len() <= MOST_LIST_WORDS
         && ticks.windows(2).all(|pair| pair[0] < pair[1])

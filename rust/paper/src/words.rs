@@ -75,6 +75,38 @@ pub const KINDS: [Kind; KIND_COUNT] = [
     Kind::Cover,
 ];
 
+/// Document 01's name of each kind.
+const NAMES: [&str; KIND_COUNT] = [
+    "NOP",
+    "START",
+    "HK",
+    "STOP",
+    "IR DETECTOR",
+    "IR WIN MODE",
+    "VDETCOM M",
+    "VDETCOM L",
+    "VDETADJ M",
+    "VDETADJ L",
+    "IR DELAY",
+    "IR EXPO",
+    "WIN X1",
+    "WIN Y1",
+    "WIN X2",
+    "WIN Y2",
+    "CCD DELAY",
+    "CCD EXPO",
+    "CCD LAMP",
+    "IR LAMP",
+    "SHUTTER",
+    "ANNEALING",
+    "SIN M",
+    "SIN L",
+    "COS M",
+    "COS L",
+    "SWITCH",
+    "COVER",
+];
+
 /// First and last allowed word of each kind; a cover word's steps are
 /// limited besides.
 const ALLOWED: [(u16, u16); KIND_COUNT] = [
@@ -136,6 +168,11 @@ impl Kind {
     /// Position in document 01's table, 0 to 27.
     pub const fn index(self) -> u8 {
         self as u8
+    }
+
+    /// Document 01's name.
+    pub const fn name(self) -> &'static str {
+        NAMES[self as usize]
     }
 
     /// The word of this kind with the given data in its low ten bits.

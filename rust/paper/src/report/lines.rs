@@ -56,13 +56,13 @@ fn cover_text(cover: CoverMove) -> String {
     )
 }
 
-fn exposure_text(found: &Settings) -> String {
+pub fn exposure_text(found: &Settings) -> String {
     let pair = pair_text(found.sine, found.cosine);
     let length = seconds(found.acquisition_length());
     format!("exposure: {pair}, length {length:>5} s")
 }
 
-fn pair_text(sine_register: u16, cosine: u16) -> String {
+pub fn pair_text(sine_register: u16, cosine: u16) -> String {
     format!("sine {}, cosine {cosine:>4}", sine(sine_register))
 }
 
@@ -101,7 +101,7 @@ fn times_text(delay: u16, expo: u16) -> String {
     format!("delay {delay} s, exposure {exposure} s")
 }
 
-fn lamp_text(register: u16) -> String {
+pub fn lamp_text(register: u16) -> String {
     let lamp = name(OFF_ON, switched(register));
     format!("{lamp}, current {}", level(register))
 }
@@ -115,6 +115,6 @@ fn motor_text(switch: u16) -> String {
     }
 }
 
-fn mirror_time() -> String {
+pub fn mirror_time() -> String {
     format!("{MIRROR_TICKS} ticks, {} s", seconds(MIRROR_TICKS.into()))
 }

@@ -1,8 +1,8 @@
 //! The report of a plan: what a head does with it, laid out for reading.
 
-mod groups;
-mod layout;
-mod lines;
+pub(crate) mod groups;
+pub(crate) mod layout;
+pub(crate) mod lines;
 mod simulation;
 
 use crate::head::{tick, Ticked};
