@@ -51,6 +51,23 @@ extern "C" {
         text: *mut u8,
         text_len: usize,
     ) -> u32;
+    pub fn shabgozim_read_list(
+        text: *const u8,
+        text_len: usize,
+        words: *mut u16,
+        words_len: usize,
+        ticks: *mut u32,
+        ticks_len: usize,
+    ) -> u64;
+    pub fn shabgozim_inspection(
+        words: *const u16,
+        words_len: usize,
+        ticks: *const u32,
+        ticks_len: usize,
+        text: *mut u8,
+        text_len: usize,
+    ) -> u64;
+    pub fn shabgozim_list_refusal(number: u8, line: u32, text: *mut u8, text_len: usize) -> u32;
     pub fn shabgozim_write_ir(
         state: *const u16,
         state_len: usize,

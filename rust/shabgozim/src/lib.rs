@@ -8,6 +8,7 @@
 //! | [`State::list`], [`ListRefusal`] | a list of timed words in one call |
 //! | [`schedule`], [`translate`] | a stored plan turned into timed words |
 //! | [`listing`], [`State::report`], [`PlanRefusal::in_words`] | a plan listed, its simulation reported, a refusal in words |
+//! | [`read_list`], [`inspection`], [`ListTextRefusal::in_words`] | a list read from text and inspected |
 //! | [`write_ir`], [`read_ir`], [`write_ccd`], [`read_ccd`] | the two housekeeping blocks |
 //! | [`raw`] | the same functions over slices, answers still packed |
 //!
@@ -53,6 +54,7 @@ mod plan;
 pub mod raw;
 mod state;
 mod text;
+mod text_list;
 mod words;
 
 pub use blocks::*;
@@ -60,6 +62,7 @@ pub use list::*;
 pub use plan::*;
 pub use state::*;
 pub use text::*;
+pub use text_list::*;
 pub use words::*;
 
 /// The example in the README.

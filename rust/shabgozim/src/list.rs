@@ -7,8 +7,8 @@ use crate::state::{Outcome, State};
 #[derive(Clone, Copy, Debug, PartialEq, Eq)]
 pub enum ListRefusal {
     StateOutOfRange = 21,
-    /// The ticks don't rise, or there are more words than
-    /// [`MOST_WORDS`](crate::MOST_WORDS).
+    /// The ticks don't rise or are not as many as the words, or there are more
+    /// words than [`MOST_WORDS`](crate::MOST_WORDS).
     NoList = 31,
 }
 

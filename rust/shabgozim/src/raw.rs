@@ -129,6 +129,47 @@ pub fn refusal(number: u8, place: u32, plan: &[u8], text: &mut [u8]) -> u32 {
     }
 }
 
+/// Reads a list from text. Bits 0 to 7: number (0, 91 to 96, or 10 where
+/// `words` or `ticks` is shorter than the list); 32 to 63: the number of words
+/// for 0 and 10, else the line.
+pub fn read_list(text: &[u8], words: &mut [u16], ticks: &mut [u32]) -> u64 {
+    // SAFETY: as above, for three slices.
+    unsafe {
+        ffi::shabgozim_read_list(
+            text.as_ptr(),
+            text.len(),
+            words.as_mut_ptr(),
+            words.len(),
+            ticks.as_mut_ptr(),
+            ticks.len(),
+        )
+    }
+}
+
+/// Writes the inspection of a list. Bits 0 to 7: number (0, 31 as [`list`], or
+/// 10 where `text` is shorter); 8 to 23: the findings, and 32 to 63: the text's
+/// length, both for 0 and 10.
+pub fn inspection(words: &[u16], ticks: &[u32], text: &mut [u8]) -> u64 {
+    // SAFETY: as above, for three slices.
+    unsafe {
+        ffi::shabgozim_inspection(
+            words.as_ptr(),
+            words.len(),
+            ticks.as_ptr(),
+            ticks.len(),
+            text.as_mut_ptr(),
+            text.len(),
+        )
+    }
+}
+
+/// Writes a refusal of a list's text in words, with a newline: the length, or 0
+/// where `number` is none of 91 to 96 or `text` is shorter.
+pub fn list_refusal(number: u8, line: u32, text: &mut [u8]) -> u32 {
+    // SAFETY: as above, for one slice.
+    unsafe { ffi::shabgozim_list_refusal(number, line, text.as_mut_ptr(), text.len()) }
+}
+
 /// Writes the IR block: 0, 11 or 21.
 pub fn write_ir(
     state: &[u16],

@@ -68,9 +68,7 @@ impl PlanRefusal {
         // The library's own places always fit.
         let place = u32::try_from(self.place).unwrap_or(u32::MAX);
         let length = raw::refusal(self.number, place, plan, &mut text);
-        let mut line = first(text, length);
-        line.truncate(line.trim_end_matches('\n').len());
-        line
+        line(text, length)
     }
 }
 
@@ -87,9 +85,16 @@ fn written(answer: u64, text: Vec<u8>) -> Result<String, PlanRefusal> {
     }
 }
 
+/// The first bytes as text, without a newline at their end.
+pub(crate) fn line(text: Vec<u8>, length: u32) -> String {
+    let mut line = first(text, length);
+    line.truncate(line.trim_end_matches('\n').len());
+    line
+}
+
 /// The first bytes as text. The library writes ASCII alone, so that nothing is
 /// replaced here.
-fn first(mut text: Vec<u8>, length: u32) -> String {
+pub(crate) fn first(mut text: Vec<u8>, length: u32) -> String {
     text.truncate(length as usize);
     String::from_utf8_lossy(&text).into_owned()
 }
