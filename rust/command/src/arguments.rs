@@ -9,7 +9,7 @@ use std::os::unix::ffi::OsStrExt;
 pub enum Request {
     /// A text about the program itself.
     Show(fn() -> String),
-    /// The texts of plans.
+    /// The texts of plans, or of a list.
     Texts(&'static Subcommand, Vec<Source>),
 }
 
@@ -27,7 +27,7 @@ pub fn read(arguments: impl Iterator<Item = OsString>) -> Result<Request, Failur
             return option(&argument);
         }
     }
-    plans(operands)
+    texts(operands)
 }
 
 /// `-` alone is a name.
@@ -46,7 +46,7 @@ fn option(argument: &OsStr) -> Result<Request, Failure> {
 }
 
 /// A subcommand and its names.
-fn plans(operands: Vec<OsString>) -> Result<Request, Failure> {
+fn texts(operands: Vec<OsString>) -> Result<Request, Failure> {
     let mut operands = operands.into_iter();
     let Some(name) = operands.next() else {
         return Err(Failure::usage(OsStr::new("subcommand"), "missing"));

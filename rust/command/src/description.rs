@@ -2,22 +2,27 @@
 //! and manual page are made from it.
 
 use crate::failure::{DONE, FAILED, REFUSED};
+use crate::texts::{inspected, planned, Text};
 use crate::{help, man};
-use shabgozim::{listing, PlanRefusal, State, MOST_PLAN_BYTES};
+use shabgozim::{listing, State, MOST_LIST_BYTES, MOST_PLAN_BYTES};
 use std::ffi::c_int;
 
 pub const NAME: &str = "shabgozim";
 
 pub const SUMMARY: &str =
-    "lists plans for the VIRTIS-M instrument head, and reports what the head does with them";
+    "lists plans for the VIRTIS-M instrument head, reports what the head does with them, and \
+     inspects lists";
 
 pub struct Subcommand {
     pub name: &'static str,
     /// The names in the synopsis.
     pub operands: &'static str,
     pub most_names: usize,
-    /// The text of a plan for a head.
-    pub text: fn(&mut State, &[u8]) -> Result<String, PlanRefusal>,
+    /// The most bytes that an input may have.
+    pub most_bytes: usize,
+    /// The text of an input for a head, or the refusal in words. The input has
+    /// one byte more where it is too long.
+    pub text: fn(&mut State, &[u8]) -> Result<Text, String>,
     pub says: &'static str,
 }
 
@@ -26,18 +31,31 @@ pub const SUBCOMMANDS: &[Subcommand] = &[
         name: "list",
         operands: "[PLAN]",
         most_names: 1,
-        text: |head, plan| listing(head, plan),
+        most_bytes: MOST_PLAN_BYTES,
+        text: |head, plan| planned(plan, |plan| listing(head, plan)),
         says: "Prints the words of a plan for a head at power-on, each with its tick, and the end.",
     },
     Subcommand {
         name: "report",
         operands: "[PLAN...]",
         most_names: usize::MAX,
-        text: State::report,
+        most_bytes: MOST_PLAN_BYTES,
+        text: |head, plan| planned(plan, |plan| head.report(plan)),
         says: "Prints what a head does with a plan. The first plan begins at power-on. Each \
                further one begins with the head as the plan before it left it, after the ticks \
                until it is idle and at rest. A plan that is refused or cannot be read is the \
                last one; the reports before it are printed.",
+    },
+    Subcommand {
+        name: "inspect",
+        operands: "[LIST]",
+        most_names: 1,
+        most_bytes: MOST_LIST_BYTES,
+        text: |_, list| inspected(list),
+        says: "Prints what each word of a list means and what a head at power-on makes of it, \
+               the settings that are left, and how many findings there are: ignored words, \
+               exposures while a mirror set is incomplete, and exposures begun while something \
+               moves.",
     },
 ];
 
@@ -72,11 +90,17 @@ pub const END_OF_OPTIONS: &str =
      with -.";
 
 pub const STATUSES: &[(c_int, &str)] = &[
-    (DONE, "Everything was printed."),
-    (REFUSED, "A plan was refused."),
+    (
+        DONE,
+        "Everything was printed, and an inspected list has no findings.",
+    ),
+    (
+        REFUSED,
+        "A plan or a list was refused, or a list was inspected and has findings.",
+    ),
     (
         FAILED,
-        "A plan could not be read, the output could not be written, or an argument is wrong.",
+        "An input could not be read, the output could not be written, or an argument is wrong.",
     ),
 ];
 
@@ -91,6 +115,10 @@ pub const EXAMPLES: &[(&str, &str)] = &[
         "Reports two plans on one head, one after the other.",
     ),
     (
+        "shabgozim inspect their.list && mv their.list sound",
+        "Puts a list into the folder sound, but only where its inspection has no findings.",
+    ),
+    (
         r"printf '\001\000\002\001\020' | shabgozim list",
         "Lists a plan of one housekeeping request.",
     ),
@@ -99,13 +127,14 @@ pub const EXAMPLES: &[(&str, &str)] = &[
 /// The paragraphs about the program as a whole.
 pub fn about() -> Vec<String> {
     let input = format!(
-        "A PLAN is the name of a file that has a stored plan. Without a name, and for the name -, \
-         the plan is read from standard input. An input of more than {MOST_PLAN_BYTES} bytes is \
-         refused."
+        "A PLAN is the name of a file that has a stored plan, a LIST that of a file that has a \
+         list of words as the subcommand list prints it. Without a name, and for the name -, \
+         standard input is read. A plan of more than {MOST_PLAN_BYTES} bytes and a list of more than \
+         {MOST_LIST_BYTES} bytes are refused."
     );
     let output = "What is printed is the verified library's text. Nothing is printed for a \
-                  refused plan: the refusal is told on standard error, with its number and \
-                  place. All output is written at the end, when it is complete.";
+                  refused plan or list: the refusal is told on standard error, with its number \
+                  and place. All output is written at the end, when it is complete.";
     vec![input, output.into()]
 }
 

@@ -1,12 +1,13 @@
-//! `shabgozim`: lists plans, and reports what the head does with them.
+//! `shabgozim`: lists plans, reports what the head does with them, and inspects
+//! lists.
 //!
 //! | module | idea |
 //! |---|---|
 //! | `description` | subcommands, options, statuses and examples, as data |
 //! | `sections`, `help`, `man` | the description in sections, as plain text, and as a manual page |
 //! | `arguments` | what is asked for |
-//! | `source` | where a plan comes from, and its bytes |
-//! | `texts` | the texts of plans, one after another |
+//! | `source` | where a plan or a list comes from, and its bytes |
+//! | `texts` | the texts of plans, one after another, and of a list |
 //! | `failure` | why something was not done, told on standard error |
 //! | `descriptors` | standard input, output and error, as they were given |
 
@@ -50,5 +51,6 @@ fn run() -> Result<c_int, Failure> {
 fn finish(done: Texts, descriptors: Descriptors) -> c_int {
     let printed = descriptors.print(&done.text);
     let failures = [printed.err(), done.failure].into_iter().flatten();
-    failures.map(Failure::tell).max().unwrap_or(DONE)
+    let told = failures.map(Failure::tell).max();
+    told.unwrap_or(DONE).max(done.status)
 }

@@ -1,8 +1,7 @@
-//! Where a plan comes from, and its bytes.
+//! Where a plan or a list comes from, and its bytes.
 
 use crate::descriptors::Descriptors;
 use crate::failure::Failure;
-use shabgozim::MOST_PLAN_BYTES;
 use std::ffi::{OsStr, OsString};
 use std::fs::File;
 use std::io::{self, Read};
@@ -30,32 +29,26 @@ impl Source {
         }
     }
 
-    /// All its bytes, where they are not more than a plan may have.
-    pub fn plan(&self, descriptors: &Descriptors) -> Result<Vec<u8>, Failure> {
-        let bytes = self.beginning(descriptors);
-        let bytes = bytes.map_err(|error| Failure::system(self.name(), &error))?;
-        if bytes.len() > MOST_PLAN_BYTES {
-            return Err(Failure::refused(self.name(), "input too long"));
-        }
-        Ok(bytes)
+    /// All its bytes. One more than it may have tells a longer input; an
+    /// endless one is read no further.
+    pub fn bytes(&self, most: usize, descriptors: &Descriptors) -> Result<Vec<u8>, Failure> {
+        let bytes = self.beginning(most as u64 + 1, descriptors);
+        bytes.map_err(|error| Failure::system(self.name(), &error))
     }
 
-    fn beginning(&self, descriptors: &Descriptors) -> io::Result<Vec<u8>> {
+    fn beginning(&self, length: u64, descriptors: &Descriptors) -> io::Result<Vec<u8>> {
         match self {
             Source::StandardInput => {
                 let input = descriptors.input()?;
-                beginning(&input)
+                beginning(&input, length)
             }
-            Source::Named(name) => beginning(&File::open(name)?),
+            Source::Named(name) => beginning(&File::open(name)?, length),
         }
     }
 }
 
-/// One byte more than a plan may have tells a longer input; an endless one is
-/// read no further.
-fn beginning(file: &File) -> io::Result<Vec<u8>> {
+fn beginning(file: &File, length: u64) -> io::Result<Vec<u8>> {
     let mut bytes = Vec::new();
-    file.take(MOST_PLAN_BYTES as u64 + 1)
-        .read_to_end(&mut bytes)?;
+    file.take(length).read_to_end(&mut bytes)?;
     Ok(bytes)
 }

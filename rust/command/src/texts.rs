@@ -1,21 +1,37 @@
-//! The texts of plans, one after another.
+//! The texts of plans, one after another, and of a list.
 
 use crate::description::Subcommand;
 use crate::descriptors::Descriptors;
-use crate::failure::Failure;
+use crate::failure::{Failure, DONE, REFUSED};
 use crate::source::Source;
-use shabgozim::State;
+use shabgozim::{inspection, read_list, PlanRefusal, State, MOST_PLAN_BYTES};
+use std::ffi::c_int;
 
-/// What is to be printed, and why it is not more.
+/// The text of one input, and the exit status when it is printed.
+pub struct Text {
+    text: String,
+    status: c_int,
+}
+
+/// What is to be printed, the exit status then, and why it is not more.
 pub struct Texts {
     pub text: String,
+    pub status: c_int,
     pub failure: Option<Failure>,
 }
 
 impl Texts {
     pub fn of(text: String) -> Texts {
-        let failure = None;
-        Texts { text, failure }
+        Texts {
+            text,
+            status: DONE,
+            failure: None,
+        }
+    }
+
+    fn add(&mut self, next: Text) {
+        self.text += &next.text;
+        self.status = self.status.max(next.status);
     }
 }
 
@@ -26,7 +42,7 @@ pub fn of_all(subcommand: &Subcommand, sources: &[Source], descriptors: &Descrip
     let mut done = Texts::of(String::new());
     for source in sources {
         match of_one(subcommand, source, descriptors, &mut head) {
-            Ok(text) => done.text.push_str(&text),
+            Ok(text) => done.add(text),
             Err(failure) => {
                 done.failure = Some(failure);
                 break;
@@ -41,8 +57,35 @@ fn of_one(
     source: &Source,
     descriptors: &Descriptors,
     head: &mut State,
-) -> Result<String, Failure> {
-    let plan = source.plan(descriptors)?;
-    let text = (subcommand.text)(head, &plan);
-    text.map_err(|refusal| Failure::refused(source.name(), &refusal.in_words(&plan)))
+) -> Result<Text, Failure> {
+    let input = source.bytes(subcommand.most_bytes, descriptors)?;
+    let text = (subcommand.text)(head, &input);
+    text.map_err(|refusal| Failure::refused(source.name(), &refusal))
+}
+
+/// A text about a plan.
+pub fn planned(
+    plan: &[u8],
+    text: impl FnOnce(&[u8]) -> Result<String, PlanRefusal>,
+) -> Result<Text, String> {
+    if plan.len() > MOST_PLAN_BYTES {
+        return Err("input too long".into());
+    }
+    let text = text(plan).map_err(|refusal| refusal.in_words(plan))?;
+    let status = DONE;
+    Ok(Text { text, status })
+}
+
+/// The inspection of a list.
+pub fn inspected(list: &[u8]) -> Result<Text, String> {
+    let list = read_list(list).map_err(|refusal| refusal.in_words())?;
+    // What is read is a list, so that no second refusal comes.
+    let inspected = inspection(&list.words, &list.ticks);
+    let inspected = inspected.map_err(|refusal| format!("refused {}", refusal.number()))?;
+    let status = match inspected.findings {
+        0 => DONE,
+        _ => REFUSED,
+    };
+    let text = inspected.text;
+    Ok(Text { text, status })
 }

@@ -13,12 +13,14 @@ fn folder() -> Folder {
     Folder::new()
         .with("good.plan", GOOD)
         .with("bad.plan", TOO_SHORT)
+        .with("my.list", LISTED.as_bytes())
+        .with("lost.list", LOST)
 }
 
 #[test]
 fn a_closed_input() {
     let folder = folder();
-    for subcommand in ["list", "list -", "report", "report -"] {
+    for subcommand in ["list", "list -", "report", "report -", "inspect"] {
         let script = format!("\"$0\" {subcommand} <&-");
         expect(folder.shell(&script), 2, "", INPUT_CLOSED);
     }
@@ -36,6 +38,8 @@ fn a_closed_output() {
     for arguments in [
         "list good.plan",
         "report good.plan",
+        "inspect my.list",
+        "inspect lost.list",
         "--help",
         "--man",
         "-V",
@@ -76,6 +80,8 @@ fn a_full_output() {
     for arguments in [
         "list good.plan",
         "report good.plan",
+        "inspect my.list",
+        "inspect lost.list",
         "--help",
         "--man",
         "-V",
@@ -112,6 +118,7 @@ fn a_pipe_without_a_reader() {
     for arguments in [
         &["list", "good.plan"][..],
         &["report", "good.plan"],
+        &["inspect", "lost.list"],
         &["-h"],
     ] {
         let (reader, writer) = io::pipe().expect("a pipe can be made");

@@ -12,6 +12,7 @@ fn a_missing_file() {
     let folder = Folder::new().with("p.plan", GOOD);
     let told = "shabgozim: none: No such file or directory\n";
     expect(folder.run(&["list", "none"], GOOD), 2, "", told);
+    expect(folder.run(&["inspect", "none"], LOST), 2, "", told);
     let arguments = ["report", "p.plan", "none", "p.plan"];
     expect(folder.run(&arguments, b""), 2, &reports(&[GOOD]), told);
     let no_name = "shabgozim: : No such file or directory\n";
@@ -26,6 +27,7 @@ fn a_directory() {
     let told = "shabgozim: .: Is a directory\n";
     expect(folder.run(&["list", "."], GOOD), 2, "", told);
     expect(folder.run(&["report", "."], GOOD), 2, "", told);
+    expect(folder.run(&["inspect", "."], GOOD), 2, "", told);
     let told = "shabgozim: standard input: Is a directory\n";
     expect(folder.shell("\"$0\" list < ."), 2, "", told);
 }
@@ -74,8 +76,27 @@ fn the_longest_input() {
 }
 
 #[test]
+fn the_longest_list() {
+    let mut longest = LISTED.as_bytes().to_vec();
+    longest.resize(8192, b'x');
+    let mut too_long = longest.clone();
+    too_long.push(b'x');
+    let folder = Folder::new()
+        .with("longest", &longest)
+        .with("too_long", &too_long);
+    let told = "shabgozim: longest: refused 95: a line after the end (line 9)\n";
+    expect(folder.run(&["inspect", "longest"], b""), 1, "", told);
+    let told = "shabgozim: too_long: refused 96: more than 8,192 bytes (line 9)\n";
+    expect(folder.run(&["inspect", "too_long"], b""), 1, "", told);
+    let told = "shabgozim: standard input: refused 96: more than 8,192 bytes (line 9)\n";
+    expect(folder.run(&["inspect"], &too_long), 1, "", told);
+}
+
+#[test]
 fn an_endless_input() {
     let folder = Folder::new();
+    let told = "shabgozim: /dev/zero: refused 96: more than 8,192 bytes (line 1)\n";
+    expect(folder.run(&["inspect", "/dev/zero"], b""), 1, "", told);
     for subcommand in ["list", "report"] {
         let told = "shabgozim: /dev/zero: input too long\n";
         expect(folder.run(&[subcommand, "/dev/zero"], b""), 1, "", told);

@@ -3,6 +3,7 @@
 
 mod descriptors;
 mod inputs;
+mod lists;
 mod pages;
 mod plans;
 mod run;

@@ -1,6 +1,6 @@
 //! Runs the program, and says what is expected of it.
 
-use shabgozim::{listing, State};
+use shabgozim::{inspection, listing, read_list, State};
 use std::ffi::OsStr;
 use std::fs;
 use std::io::Write;
@@ -22,6 +22,9 @@ pub const WRONG_LENGTH: &[u8] = &[1, 0, 3, 1, 16];
 /// A mirror position, and a window mode that there is not.
 pub const FAULTY_SECOND: &[u8] = &[1, 0, 9, 5, 12, 0xFF, 0x00, 0x0F, 0xF8, 2, 5, 2];
 pub const REFUSED: [&[u8]; 4] = [TOO_SHORT, WRONG_VERSION, WRONG_LENGTH, FAULTY_SECOND];
+
+/// The example's list without its fourth mirror word.
+pub const LOST: &[u8] = b"tick word\n0 2011\n1 A000\n2 600F\n33 8000\n191 4000\nend 194\n";
 
 static FOLDERS: AtomicUsize = AtomicUsize::new(0);
 
@@ -86,6 +89,19 @@ pub fn expect(ran: Output, status: i32, output: &str, errors: &str) {
 pub fn refusal(name: &str, plan: &[u8]) -> String {
     let refusal = listing(&State::power_on(), plan).expect_err("a refused plan");
     format!("shabgozim: {name}: {}\n", refusal.in_words(plan))
+}
+
+/// The message about a list that the library refuses.
+pub fn list_refusal(name: &str, list: &[u8]) -> String {
+    let refusal = read_list(list).expect_err("a refused list");
+    format!("shabgozim: {name}: {}\n", refusal.in_words())
+}
+
+/// The library's inspection of this list.
+pub fn inspected(list: &[u8]) -> String {
+    let list = read_list(list).expect("a list");
+    let inspected = inspection(&list.words, &list.ticks);
+    inspected.expect("a list").text
 }
 
 /// The library's reports of these plans, one after another on one head.

@@ -4,6 +4,7 @@ use crate::run::*;
 
 const USAGE: &str = "usage: shabgozim list [PLAN]
        shabgozim report [PLAN...]
+       shabgozim inspect [LIST]
        shabgozim --help | --version | --man
 ";
 
@@ -34,4 +35,6 @@ fn wrong_arguments_give_the_usage() {
     wrong(&["list", "a", "b"], "b: one name too many");
     wrong(&["list", "-", "-"], "standard input: one name too many");
     wrong(&["list", "--", "a", "--"], "--: one name too many");
+    wrong(&["inspect", "a", "b"], "b: one name too many");
+    wrong(&["inspect", "-", "-"], "standard input: one name too many");
 }
