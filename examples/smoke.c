@@ -1,15 +1,18 @@
 /*
  * Drives the library through its C interface: a few words and ticks by hand,
  * then document 01's example plan, translated and run tick by tick on the head;
- * then its list in one call, whole and with a word lost.
+ * then its list in one call, whole and with a word lost; then texts, and the
+ * list with a word lost read from text and inspected.
  *
- *     rt staticlib interface
+ *     rt staticlib interface && rt staticlib texts
  *     cc -Wall -Wextra -Werror -I include examples/smoke.c \
- *         target/staticlib/libinterface.a -o target/smoke
+ *         target/staticlib/libinterface.a target/staticlib/libtexts.a \
+ *         -o target/smoke
  *     target/smoke | diff examples/smoke.stdout -
  */
 #include <inttypes.h>
 #include <stdio.h>
+#include <string.h>
 
 #include "shabgozim.h"
 
@@ -222,6 +225,37 @@ static void print_texts(void)
     fwrite(text, 1, length, stdout);
 }
 
+/* Reads a list as text and prints its inspection, or why it is refused. */
+static void inspect_list(const char *list)
+{
+    static uint8_t text[SHABGOZIM_INSPECTION];
+    uint16_t words[SHABGOZIM_MOST_LISTED];
+    uint32_t ticks[SHABGOZIM_MOST_LISTED];
+
+    uint64_t read = shabgozim_read_list((const uint8_t *)list, strlen(list),
+                                        words, SHABGOZIM_MOST_LISTED, ticks,
+                                        SHABGOZIM_MOST_LISTED);
+    if ((read & 0xFF) != 0) {
+        uint32_t length = shabgozim_list_refusal(
+            (uint8_t)read, (uint32_t)(read >> 32), text, sizeof text);
+        fwrite(text, 1, length, stdout);
+        return;
+    }
+    size_t count = (size_t)(read >> 32);
+    uint64_t inspected = shabgozim_inspection(words, count, ticks, count, text,
+                                              sizeof text);
+    fwrite(text, 1, (size_t)(inspected >> 32), stdout);
+    printf("findings %u\n", (unsigned)(inspected >> 8 & 0xFFFF));
+}
+
+/* The example's list without its fourth mirror word, and with a tick twice. */
+static void inspect_lists(void)
+{
+    inspect_list("tick word\n0 2011\n1 A000\n2 600F\n33 8000\n191 4000\n"
+                 "end 194\n");
+    inspect_list("tick word\n0 2011\n1 A000\n1 600F\n3 E0F8\n");
+}
+
 int main(void)
 {
     by_hand();
@@ -229,5 +263,6 @@ int main(void)
     run_lists();
     refuse_plan();
     print_texts();
+    inspect_lists();
     return 0;
 }

@@ -2,8 +2,10 @@
  * Shabgozim: verified ground software for the VIRTIS-M instrument head.
  *
  * Build the archives and link them; nothing else is needed. The second is for
- * the three functions that write texts (`shabgozim_listing`, `shabgozim_report`,
- * `shabgozim_refusal`), and may be left out where none of them is called:
+ * the functions that write or read texts (`shabgozim_listing`,
+ * `shabgozim_report`, `shabgozim_refusal`, `shabgozim_read_list`,
+ * `shabgozim_inspection`, `shabgozim_list_refusal`), and may be left out where
+ * none of them is called:
  *
  *     rt staticlib interface
  *     rt staticlib texts
@@ -22,7 +24,8 @@
  * never ends the program. Calls on different buffers may run at the same time.
  *
  * Numbers of refusals are those of documents 01 and 02: 1-10 for plans, 11-13
- * for blocks, 21-25 for the head, 31 for lists. 0 is success.
+ * for blocks, 21-25 for the head, 31 for lists; 91-96, for lists as text, are
+ * the library's own. 0 is success.
  *
  * One tick is 10 ms.
  */
@@ -211,16 +214,17 @@ uint64_t shabgozim_translate(const uint16_t *state, size_t state_length,
                              uint32_t *ticks, size_t ticks_length);
 
 /* ------------------------------------------------------------------------
- * Texts for people: the listing of a plan, the report of its simulation, and a
- * refusal in words. They are ASCII, every line ends in a newline, and no zero
- * follows them.
+ * Texts for people: the listing of a plan, the report of its simulation, the
+ * inspection of a list, and a refusal in words. They are ASCII, every line ends
+ * in a newline, and no zero follows them.
  */
 
 /* Bytes that have room for every text of their kind. */
 enum {
     SHABGOZIM_LISTING = 8192,
     SHABGOZIM_REPORT = 65536,
-    SHABGOZIM_REFUSAL = 1024
+    SHABGOZIM_REFUSAL = 1024, /* of a plan, or of a list's text */
+    SHABGOZIM_INSPECTION = 262144
 };
 
 /*
@@ -262,6 +266,64 @@ uint64_t shabgozim_report(uint16_t *state, size_t state_length,
 uint32_t shabgozim_refusal(uint8_t number, uint32_t place,
                            const uint8_t *plan, size_t plan_length,
                            uint8_t *text, size_t text_length);
+
+/* No list has more bytes than this as text. */
+enum { SHABGOZIM_MOST_LIST_TEXT = 8192 };
+
+/*
+ * Reads a list from text, in the form in which `shabgozim_listing` writes it: a
+ * first line `tick word`; for each word a line with its tick in decimal, without
+ * leading zeros and below 2^32, one space, and the word as four hexadecimal
+ * digits, the letters of either case; last `end` and a tick, which may be left
+ * out. No other byte may stand in a line. The last line may lack its newline.
+ *
+ * Bits 0-7 of the answer: 0, or why the text is refused; lines are judged in
+ * order, and the first faulty one decides:
+ *     96  more than 8,192 bytes (before any line is judged; the line is that of
+ *         byte 8,193)
+ *     91  the first line is not `tick word`
+ *     95  a line after the end
+ *     92  not a tick and a word, nor an end
+ *     93  the tick is not above the tick of the word before
+ *     94  a 257th word
+ *     10  `words` or `ticks` has fewer places than the list has words (the last
+ *         check)
+ * Bits 32-63: for 0 and 10 the number of words; for 91-96 the line, counted from
+ * 1. All other bits are 0.
+ *
+ * Success fills the first places of both buffers, and writes no other.
+ */
+uint64_t shabgozim_read_list(const uint8_t *text, size_t text_length,
+                             uint16_t *words, size_t words_length,
+                             uint32_t *ticks, size_t ticks_length);
+
+/*
+ * Writes the inspection of a list: what each word means, and what a head at
+ * power-on makes of it when the list is given as `shabgozim_list` gives it.
+ *
+ * Bits 0-7 of the answer: 0; 31 where the words and ticks are no list (the ticks
+ * do not rise strictly, or the two have not the same length or more than 256
+ * places); 10 where `text` is shorter than the inspection (the last check).
+ * Bits 8-23, for 0 and 10: the findings, which are the ignored words, the
+ * exposures while a mirror set is begun and not complete, and the exposures
+ * begun while something moves; a sound list has none.
+ * Bits 32-63, for 0 and 10: the length of the inspection. All other bits are 0.
+ *
+ * Success writes the inspection into the first bytes of `text`, and no other.
+ */
+uint64_t shabgozim_inspection(const uint16_t *words, size_t words_length,
+                              const uint32_t *ticks, size_t ticks_length,
+                              uint8_t *text, size_t text_length);
+
+/*
+ * Writes a refusal of a list's text in words, one line: its number, its rule and
+ * its line. `number` and `line` are those that `shabgozim_read_list` answers.
+ *
+ * Answers the length of the line; 0 where `number` is not 91-96 or `text` is
+ * shorter than the line, and then writes nothing.
+ */
+uint32_t shabgozim_list_refusal(uint8_t number, uint32_t line,
+                                uint8_t *text, size_t text_length);
 
 /* ------------------------------------------------------------------------
  * Housekeeping blocks. They are due when a tick says so, and show the state
