@@ -1,45 +1,90 @@
-//! The stored reports of the example plans: `NAME.report` is that of
-//! `NAME.plan`, or of the plans that the one line of `NAME.plans` names.
+//! The stored texts of the examples: `NAME.report` is that of `NAME.plan`, or of
+//! the plans that the one line of `NAME.plans` names; `NAME.inspection` that of
+//! `NAME.list`, or the refusal in words.
 
 use std::fs;
 use std::path::{Path, PathBuf};
-use std::process::Command;
+use std::process::{Command, Output};
 
-const FOLDER: &str = concat!(env!("CARGO_MANIFEST_DIR"), "/../../examples/plans");
+const PLANS: &str = concat!(env!("CARGO_MANIFEST_DIR"), "/../../examples/plans");
+const LISTS: &str = concat!(env!("CARGO_MANIFEST_DIR"), "/../../examples/lists");
 const MOST_COLUMNS: usize = 100;
 const LEAST_REPORTS: usize = 4;
+const LEAST_INSPECTIONS: usize = 12;
+/// What the last line of a sound list's inspection says.
+const NOT_FOUND: [&str; 3] = [
+    ", ignored 0,",
+    ", with an incomplete mirror set 0,",
+    ", while something moved 0\n",
+];
 
 #[test]
-fn stored() {
-    let reports = stored_reports();
+fn reports() {
+    let reports = stored(PLANS, "report");
     for report in &reports {
-        let stored = fs::read_to_string(report).expect("a report is text");
-        let ran = Command::new(env!("CARGO_BIN_EXE_shabgozim"))
-            .arg("report")
-            .args(plans(report))
-            .current_dir(FOLDER)
-            .output()
-            .expect("the program runs");
-        let errors = String::from_utf8_lossy(&ran.stderr);
-        assert!(ran.status.success(), "{}: {errors}", report.display());
-        let printed = String::from_utf8_lossy(&ran.stdout);
-        assert!(printed == stored, "{}: {printed}", report.display());
-        let too_wide = stored
-            .lines()
-            .find(|line| line.chars().count() > MOST_COLUMNS);
-        assert_eq!(too_wide, None, "{}", report.display());
+        let text = fs::read_to_string(report).expect("a report is text");
+        let ran = run(PLANS, "report", &plans(report));
+        expect(report, ran, 0, &text, "");
+        has_no_wide_line(report, &text);
     }
     assert!(reports.len() >= LEAST_REPORTS, "{} reports", reports.len());
 }
 
-fn stored_reports() -> Vec<PathBuf> {
-    let entries = fs::read_dir(FOLDER).expect("the folder of examples is there");
-    let paths = entries.map(|entry| entry.expect("an entry").path());
-    paths.filter(|path| has_extension(path, "report")).collect()
+#[test]
+fn inspections() {
+    let inspections = stored(LISTS, "inspection");
+    for inspection in &inspections {
+        let text = fs::read_to_string(inspection).expect("an inspection is text");
+        let list = inspection.with_extension("list");
+        let name = list.file_name().and_then(|name| name.to_str());
+        let name = name.expect("the name of a list");
+        let ran = run(LISTS, "inspect", &[name.into()]);
+        match text.starts_with("refused ") {
+            true => {
+                let told = format!("shabgozim: {name}: {text}");
+                expect(inspection, ran, 1, "", &told);
+            }
+            false => expect(inspection, ran, status(&text), &text, ""),
+        }
+        has_no_wide_line(inspection, &text);
+    }
+    let count = inspections.len();
+    assert!(count >= LEAST_INSPECTIONS, "{count} inspections");
 }
 
-fn has_extension(path: &Path, extension: &str) -> bool {
-    path.extension().is_some_and(|found| found == extension)
+/// 1 where the inspection has findings.
+fn status(inspection: &str) -> i32 {
+    let sound = NOT_FOUND.iter().all(|end| inspection.contains(end));
+    i32::from(!sound)
+}
+
+/// The stored texts in a folder.
+fn stored(folder: &str, extension: &str) -> Vec<PathBuf> {
+    let entries = fs::read_dir(folder).expect("the folder of examples is there");
+    let paths = entries.map(|entry| entry.expect("an entry").path());
+    let has_extension = |path: &PathBuf| path.extension().is_some_and(|found| found == extension);
+    paths.filter(has_extension).collect()
+}
+
+fn run(folder: &str, subcommand: &str, names: &[String]) -> Output {
+    let mut command = Command::new(env!("CARGO_BIN_EXE_shabgozim"));
+    command.arg(subcommand).args(names).current_dir(folder);
+    command.output().expect("the program runs")
+}
+
+fn expect(stored: &Path, ran: Output, status: i32, output: &str, errors: &str) {
+    let path = stored.display();
+    let printed = String::from_utf8_lossy(&ran.stdout);
+    let told = String::from_utf8_lossy(&ran.stderr);
+    assert_eq!(ran.status.code(), Some(status), "{path}: {told}");
+    assert!(printed == output, "{path}: {printed}");
+    assert_eq!(told, errors, "{path}");
+}
+
+fn has_no_wide_line(stored: &Path, text: &str) {
+    let mut lines = text.lines();
+    let too_wide = lines.find(|line| line.chars().count() > MOST_COLUMNS);
+    assert_eq!(too_wide, None, "{}", stored.display());
 }
 
 /// The names of a report's plans.
