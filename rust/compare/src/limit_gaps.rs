@@ -1,6 +1,6 @@
 //! Two words as far apart as motions and tasks last, and as far as can be.
 
-use crate::list_case::{ListCase, Lister};
+use crate::list_case::{ComparesLists, ListCase};
 use crate::reduce::Counted;
 use crate::states::{self, Numbers};
 use paper::state::{
@@ -55,7 +55,7 @@ const SECOND_WORDS: [u16; 3] = [0x8000, 0x1201, 0xE0FF];
 
 /// Two words with every gap; the first tick is 0, or the second the last tick
 /// there is.
-pub fn between_two(lister: &mut Lister, base: &Numbers) -> Counted {
+pub fn between_two(lister: &mut impl ComparesLists, base: &Numbers) -> Counted {
     let mut count = 0;
     for gap in gaps() {
         for first in FIRST_WORDS {

@@ -23,6 +23,11 @@ pub struct ListCase {
     pub room: usize,
 }
 
+/// What compares lists.
+pub trait ComparesLists {
+    fn compare(&mut self, case: &ListCase) -> Counted;
+}
+
 /// What one side may write to.
 #[derive(PartialEq, Eq)]
 struct Lent {
@@ -71,9 +76,11 @@ impl Lister {
         let answer = self.library.give(&self.sides.library, case);
         (answer, self.paper.give(&self.sides.paper, case))
     }
+}
 
+impl ComparesLists for Lister {
     /// Compares the answers and every place of state and outcomes.
-    pub fn compare(&mut self, case: &ListCase) -> Counted {
+    fn compare(&mut self, case: &ListCase) -> Counted {
         let (answer, expected) = self.answers(case);
         match answer == expected && self.library == self.paper {
             true => Ok(1),
@@ -113,12 +120,17 @@ impl Case for ListCase {
 
 impl fmt::Display for ListCase {
     fn fmt(&self, out: &mut fmt::Formatter) -> fmt::Result {
-        let words = line(&self.words, |word| format!(" {word:04X}"));
-        let ticks = line(&self.ticks, |tick| format!(" {tick}"));
-        writeln!(out, "words{words}\nticks{ticks}")?;
+        writeln!(out, "{}", describe(&self.words, &self.ticks))?;
         writeln!(out, "from {}", states::describe(&self.state))?;
         write!(out, "with room for {} outcomes", self.room)
     }
+}
+
+/// The words and ticks of a list, a line for each.
+pub fn describe(words: &[u16], ticks: &[u32]) -> String {
+    let words = line(words, |word| format!(" {word:04X}"));
+    let ticks = line(ticks, |tick| format!(" {tick}"));
+    format!("words{words}\nticks{ticks}")
 }
 
 /// The numbers of a list; of a very long one the first of them.

@@ -1,7 +1,7 @@
 //! Lists of timed words at the limits: of length, room, ticks and state.
 
 use crate::limit_gaps;
-use crate::list_case::{ListCase, Lister, LONGEST_STATE, ROOM};
+use crate::list_case::{ComparesLists, ListCase, Lister, LONGEST_STATE, ROOM};
 use crate::random::Random;
 use crate::random_lists::{any_ticks, few_ticks, next_tick, some_ticks, Gap, RandomLists};
 use crate::reduce::Counted;
@@ -14,7 +14,7 @@ const LENGTHS: [usize; 11] = [0, 1, 2, 3, 254, 255, 256, 257, 258, 512, 513];
 /// Room for the longest of these and more.
 const LENGTHS_ROOM: usize = 600;
 /// Lengths that two bytes take for less, and shorter ones beside them.
-const LONG_LENGTHS: [usize; 9] = [0, 1, 256, 65_535, 65_536, 65_537, 65_792, 65_793, 131_074];
+pub const LONG_LENGTHS: [usize; 9] = [0, 1, 256, 65_535, 65_536, 65_537, 65_792, 65_793, 131_074];
 /// Room for the longest of these.
 const LONGEST_ROOM: usize = 131_074;
 
@@ -28,17 +28,19 @@ pub fn lists(sides: &Sides, random: &mut Random, times: u32) -> Counted {
     ];
     bases.extend((0..40 * times).map(|_| states::in_range(random)));
     let mut count = long_lengths(sides)?;
-    let mut limits = Limits::new(sides, random);
+    let mut lister = Lister::with_room(sides, LENGTHS_ROOM);
+    let mut limits = Limits::new(&mut lister, random);
     for base in bases {
-        count += limits.lengths(&base)?;
-        count += limits.each_pair(&base)?;
+        count += limits.words_and_ticks(&base)?;
         count += limits.states_at_limits(&base)?;
         count += limits.state_lengths(&base)?;
-        count += limit_gaps::between_two(&mut limits.lister, &base)?;
-        count += limits.up_to_the_last_tick(&base)?;
-        count += limits.nearly_full(&base)?;
     }
     Ok(count)
+}
+
+/// Every limit of words and ticks from power-on.
+pub fn from_power_on(lister: &mut impl ComparesLists, random: &mut Random) -> Counted {
+    Limits::new(lister, random).words_and_ticks(&states::power_on())
 }
 
 /// Lists far too long, and room for far more outcomes than there are words.
@@ -63,19 +65,28 @@ fn long_lengths(sides: &Sides) -> Counted {
 }
 
 /// What the comparisons from each state are made with.
-struct Limits<'a> {
-    lister: Lister,
+struct Limits<'a, L> {
+    lister: &'a mut L,
     lists: RandomLists,
     random: &'a mut Random,
 }
 
-impl Limits<'_> {
-    fn new<'a>(sides: &Sides, random: &'a mut Random) -> Limits<'a> {
+impl<L: ComparesLists> Limits<'_, L> {
+    fn new<'a>(lister: &'a mut L, random: &'a mut Random) -> Limits<'a, L> {
         Limits {
-            lister: Lister::with_room(sides, LENGTHS_ROOM),
+            lister,
             lists: RandomLists::new(),
             random,
         }
+    }
+
+    fn words_and_ticks(&mut self, base: &Numbers) -> Counted {
+        let mut count = self.lengths(base)?;
+        count += self.each_pair(base)?;
+        count += limit_gaps::between_two(self.lister, base)?;
+        count += self.up_to_the_last_tick(base)?;
+        count += self.nearly_full(base)?;
+        Ok(count)
     }
 
     /// So many words, with gaps of one of these sorts.

@@ -1,6 +1,6 @@
 //! Lists of timed words of every sort, and with something wrong.
 
-use crate::list_case::{ListCase, Lister, ROOM};
+use crate::list_case::{ComparesLists, ListCase, Lister, ROOM};
 use crate::random::Random;
 use crate::random_lists::RandomLists;
 use crate::reduce::Counted;
@@ -58,7 +58,7 @@ pub fn ticks_not_rising(random: &mut Random, ticks: &mut [u32]) {
     };
 }
 
-fn unequal_lengths(random: &mut Random, case: &mut ListCase) {
+pub fn unequal_lengths(random: &mut Random, case: &mut ListCase) {
     let next = case.ticks.last().map_or(0, |last| last.saturating_add(1));
     match random.below(4) {
         0 => drop(case.words.pop()),

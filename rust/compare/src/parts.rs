@@ -3,8 +3,8 @@
 use crate::random::Random;
 use crate::reduce::Counted;
 use crate::sides::Sides;
-use crate::{blocks, codec, demand3, limits, list_limits, lists, plans};
-use crate::{refusals, reports, steps, unpacked};
+use crate::{blocks, codec, demand3, inspections, limits, list_limits, listed_plans, lists, plans};
+use crate::{refusals, reports, steps, text_lists, unpacked};
 
 pub type Compare = fn(&Sides, &mut Random, u32) -> Counted;
 
@@ -39,6 +39,9 @@ pub const PARTS: &[Part] = &[
     part("demand 3 at the limits", demand3::at_limits),
     part("reports", reports::reports),
     part("refusals in words", refusals::in_words),
+    part("text lists", text_lists::texts),
+    part("inspections", inspections::inspections),
+    part("listed plans", listed_plans::plans),
     part("blocks written", blocks::written),
     part("blocks read", blocks::read),
     part("block lengths", blocks::lengths),

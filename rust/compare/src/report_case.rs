@@ -5,16 +5,17 @@ use crate::orders;
 use crate::reduce::{failure, Case, Counted};
 use crate::sides::{Functions, Sides};
 use crate::states;
+use crate::text_form::{answers_differ, badly_formed, is_well_formed, lines_differ, written};
 use shabgozim::{REPORT_LENGTH, STATE_LENGTH};
 use std::fmt;
 
-/// No line of a report is longer.
-const MOST_COLUMNS: usize = 100;
 pub const MOST_ROOM: usize = REPORT_LENGTH + 1;
 const LONGEST_STATE: usize = STATE_LENGTH + 1;
 /// Fills that are no number of a state and no byte of a text.
 const NO_NUMBER: u16 = 0xAAAA;
 const NO_BYTE: u8 = 0xBB;
+/// What an answer has in its upper half.
+const UPPER: &str = "length or place";
 
 /// One report: state, plan, and how many places there are for the text.
 #[derive(Clone)]
@@ -50,16 +51,6 @@ impl Lent {
         self.text.refill(NO_BYTE, case.room);
         (side.report)(self.state.lent(), &case.plan, self.text.lent())
     }
-
-    /// The text of an answer; nothing for a refusal.
-    fn written(&self, answer: u64) -> &[u8] {
-        let length = match answer as u8 {
-            0 => (answer >> 32) as usize,
-            _ => 0,
-        };
-        let places = self.text.values();
-        &places[..length.min(places.len())]
-    }
 }
 
 impl Reporter {
@@ -83,7 +74,7 @@ impl Reporter {
         let alike = answer == expected
             && self.library.text == self.paper.text
             && self.library.state == self.paper.state;
-        match alike && badly_formed(self.library.written(answer)).is_none() {
+        match alike && is_well_formed(written(answer, &self.library.text)) {
             true => Ok(1),
             false => Err(failure(&self.sides, case.clone())),
         }
@@ -93,12 +84,6 @@ impl Reporter {
     pub fn left(&self) -> &[u16] {
         self.library.state.values()
     }
-}
-
-/// A line that is too long or ends in a space.
-fn badly_formed(text: &[u8]) -> Option<&[u8]> {
-    let mut lines = text.split(|&byte| byte == b'\n');
-    lines.find(|line| line.len() > MOST_COLUMNS || line.ends_with(b" "))
 }
 
 impl ReportCase {
@@ -131,15 +116,15 @@ impl Case for ReportCase {
         let mut reporter = Reporter::new(sides);
         let (answer, expected) = reporter.answers(self);
         let Reporter { library, paper, .. } = reporter;
-        let text = library.written(answer);
+        let text = written(answer, &library.text);
         if answer as u8 != expected as u8 {
-            return answers_differ(answer, expected);
+            return answers_differ(answer, expected, UPPER);
         }
-        lines_differ(text, paper.written(expected))
-            .or_else(|| answers_differ(answer, expected))
+        lines_differ(text, written(expected, &paper.text))
+            .or_else(|| answers_differ(answer, expected, UPPER))
             .or_else(|| difference("text", &library.text, &paper.text))
             .or_else(|| difference("state", &library.state, &paper.state))
-            .or_else(|| badly_formed(text).map(|line| format!("form: |{}|", as_text(line))))
+            .or_else(|| badly_formed(text))
     }
 
     fn shorter(&self) -> Vec<ReportCase> {
@@ -153,42 +138,6 @@ impl Case for ReportCase {
         cases.extend(plans.map(|plan| self.with_plan(plan)));
         cases
     }
-}
-
-fn answers_differ(answer: u64, expected: u64) -> Option<String> {
-    let text = |answer: u64| {
-        let (number, between) = (answer as u8, answer as u32 >> 8);
-        format!(
-            "number {number}, bits 8-31 {between}, length or place {}",
-            answer >> 32
-        )
-    };
-    let (library, paper) = (text(answer), text(expected));
-    (answer != expected).then(|| format!("answer: library {library}, paper {paper}"))
-}
-
-/// The first line that differs.
-fn lines_differ(library: &[u8], paper: &[u8]) -> Option<String> {
-    let (library, paper) = (as_text(library), as_text(paper));
-    let (mut lines, mut expected) = (library.split('\n'), paper.split('\n'));
-    (1..)
-        .map_while(|number| match (lines.next(), expected.next()) {
-            (None, None) => None,
-            (line, expected) => Some((number, line, expected)),
-        })
-        .find(|(_, line, expected)| line != expected)
-        .map(|(number, line, expected)| {
-            let (line, expected) = (shown(line), shown(expected));
-            format!("line {number}\nlibrary {line}\npaper   {expected}")
-        })
-}
-
-fn shown(line: Option<&str>) -> String {
-    line.map_or("nothing".into(), |line| format!("|{line}|"))
-}
-
-fn as_text(bytes: &[u8]) -> String {
-    String::from_utf8_lossy(bytes).into_owned()
 }
 
 impl fmt::Display for ReportCase {

@@ -66,7 +66,7 @@ fn fewer(case: &ListCase) -> Vec<ListCase> {
 
 /// Halves, quarters and so on down to single places; of a very long list only
 /// the first and the last such part.
-fn parts(length: usize) -> Vec<Range<usize>> {
+pub fn parts(length: usize) -> Vec<Range<usize>> {
     let mut parts = Vec::new();
     let mut size = length.div_ceil(2);
     while size > 0 {

@@ -5,13 +5,15 @@ use crate::orders;
 use crate::random::Random;
 use crate::random_lists::RandomLists;
 use crate::random_plans::any_or_extreme_orders;
+use crate::random_texts;
 use crate::reduce::{Counted, Failure};
 use crate::sides::{Sides, Typed};
 use crate::states::{self, Numbers};
 use crate::words::Words;
 use paper::{IrCallerBits, Refusal};
 use shabgozim::{place, Act, Cause, CoverMove, Outcome, State, Task, Ticked};
-use shabgozim::{CcdInputs, IrInputs, ListRefusal, PlanRefusal, Schedule, Translation, MOST_WORDS};
+use shabgozim::{CcdInputs, Inspection, IrInputs, ListRefusal, ListTextRefusal, PlanRefusal};
+use shabgozim::{Schedule, TextList, Translation, MOST_WORDS};
 use std::fmt::Debug;
 
 /// Every sort of answer, from states of every sort.
@@ -45,6 +47,14 @@ pub fn answers(sides: &Sides, random: &mut Random, times: u32) -> Counted {
             ticks_not_rising(random, &mut list.ticks);
         }
         count += timed_words(paper, &state, &list.words, &list.ticks)?;
+        let mut text = random_texts::text(random, &list.words, &list.ticks);
+        if random.once_in(2) {
+            random_texts::damage(random, &mut text);
+        }
+        count += read_list(paper, &text)?;
+        if random.once_in(32) {
+            count += inspection(paper, &list.words, &list.ticks)?;
+        }
     }
     Ok(count)
 }
@@ -121,6 +131,31 @@ fn timed_words(paper: &Typed, state: &Numbers, words: &[u16], ticks: &[u32]) -> 
     let mut count = same(state, found.map_err(ListRefusal::number), answer)?;
     count += same(state, head.numbers, expected.to_array())?;
     Ok(count)
+}
+
+/// A list read from text, or the refusal and its words.
+fn read_list(paper: &Typed, text: &[u8]) -> Counted {
+    let found = shabgozim::read_list(text);
+    let found = found.map_err(|refusal| (refusal, refusal.in_words()));
+    let expected = (paper.read_list)(text).map(|list| TextList {
+        words: list.words,
+        ticks: list.ticks,
+    });
+    let expected = expected.map_err(|refusal| {
+        let (number, line) = (refusal.number as u8, refusal.line as u32);
+        (ListTextRefusal { number, line }, refusal.in_words())
+    });
+    same(&states::power_on(), found, expected)
+}
+
+fn inspection(paper: &Typed, words: &[u16], ticks: &[u32]) -> Counted {
+    let found = shabgozim::inspection(words, ticks);
+    let found = found.map_err(|refusal| u16::from(refusal.number()));
+    let expected = (paper.inspection)(words, ticks).map(|inspected| Inspection {
+        text: inspected.text,
+        findings: inspected.findings as u32,
+    });
+    same(&states::power_on(), found, expected)
 }
 
 /// The number of an outcome in a list.

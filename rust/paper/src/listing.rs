@@ -23,7 +23,8 @@ pub fn listing(input: &[u8]) -> String {
     }
 }
 
-fn lines(words: &[u16], ticks: &[u32], end: u32) -> String {
+/// The lines of timed words and their end.
+pub fn lines(words: &[u16], ticks: &[u32], end: u32) -> String {
     let mut text = String::from("tick word\n");
     for (word, tick) in words.iter().zip(ticks) {
         // Writing to a string never fails.

@@ -8,9 +8,15 @@ pub type List = fn(&mut [u16], &[u16], &[u32], &mut [u16]) -> u32;
 pub type Translate = fn(&[u16], &[u8], &mut [u16], &mut [u32]) -> u64;
 
 /// State, plan, and the buffer for the text.
+pub type Listing = fn(&[u16], &[u8], &mut [u8]) -> u64;
+/// State, plan, and the buffer for the text.
 pub type Report = fn(&mut [u16], &[u8], &mut [u8]) -> u64;
 /// Number, place, plan, and the buffer for the text.
 pub type Refusal = fn(u8, u32, &[u8], &mut [u8]) -> u32;
+/// Text, and the buffers for words and ticks.
+pub type ReadList = fn(&[u8], &mut [u16], &mut [u32]) -> u64;
+/// Words, their ticks, and the buffer for the text.
+pub type Inspection = fn(&[u16], &[u32], &mut [u8]) -> u64;
 
 /// The functions of [`Side`].
 #[derive(Clone, Copy)]
@@ -23,8 +29,12 @@ pub struct Functions {
     pub decode: fn(u16) -> u32,
     pub encode: fn(u8, u16) -> u32,
     pub translate: Translate,
+    pub listing: Listing,
     pub report: Report,
     pub refusal: Refusal,
+    pub read_list: ReadList,
+    pub inspection: Inspection,
+    pub list_refusal: fn(u8, u32, &mut [u8]) -> u32,
     pub write_ir: fn(&[u16], Shown, &[u16], &mut [u16]) -> u32,
     pub write_ccd: fn(&[u16], Shown, &[u16], &mut [u16]) -> u32,
     pub read_ir: fn(&[u16], &mut [u16]) -> u32,
@@ -51,8 +61,12 @@ impl Functions {
             decode: S::decode,
             encode: S::encode,
             translate: S::translate,
+            listing: S::listing,
             report: S::report,
             refusal: S::refusal,
+            read_list: S::read_list,
+            inspection: S::inspection,
+            list_refusal: S::list_refusal,
             write_ir: S::write_ir,
             write_ccd: S::write_ccd,
             read_ir: S::read_ir,

@@ -39,12 +39,28 @@ impl Side for Library {
         raw::translate(state, plan, words, ticks)
     }
 
+    fn listing(state: &[u16], plan: &[u8], text: &mut [u8]) -> u64 {
+        raw::listing(state, plan, text)
+    }
+
     fn report(state: &mut [u16], plan: &[u8], text: &mut [u8]) -> u64 {
         raw::report(state, plan, text)
     }
 
     fn refusal(number: u8, place: u32, plan: &[u8], text: &mut [u8]) -> u32 {
         raw::refusal(number, place, plan, text)
+    }
+
+    fn read_list(text: &[u8], words: &mut [u16], ticks: &mut [u32]) -> u64 {
+        raw::read_list(text, words, ticks)
+    }
+
+    fn inspection(words: &[u16], ticks: &[u32], text: &mut [u8]) -> u64 {
+        raw::inspection(words, ticks, text)
+    }
+
+    fn list_refusal(number: u8, line: u32, text: &mut [u8]) -> u32 {
+        raw::list_refusal(number, line, text)
     }
 
     fn write_ir(state: &[u16], shown: Shown, readings: &[u16], block: &mut [u16]) -> u32 {

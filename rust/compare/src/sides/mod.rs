@@ -23,8 +23,13 @@ pub trait Side {
     fn encode(kind: u8, data: u16) -> u32;
 
     fn translate(state: &[u16], plan: &[u8], words: &mut [u16], ticks: &mut [u32]) -> u64;
+    fn listing(state: &[u16], plan: &[u8], text: &mut [u8]) -> u64;
     fn report(state: &mut [u16], plan: &[u8], text: &mut [u8]) -> u64;
     fn refusal(number: u8, place: u32, plan: &[u8], text: &mut [u8]) -> u32;
+
+    fn read_list(text: &[u8], words: &mut [u16], ticks: &mut [u32]) -> u64;
+    fn inspection(words: &[u16], ticks: &[u32], text: &mut [u8]) -> u64;
+    fn list_refusal(number: u8, line: u32, text: &mut [u8]) -> u32;
 
     fn write_ir(state: &[u16], shown: Shown, readings: &[u16], block: &mut [u16]) -> u32;
     fn write_ccd(state: &[u16], shown: Shown, readings: &[u16], block: &mut [u16]) -> u32;

@@ -3,7 +3,7 @@
 
 use paper::blocks::{CCD_READINGS, IR_READINGS};
 use paper::{BlockRefusal, CcdMeaning, ErrorFlags, IrCallerBits, IrMeaning};
-use paper::{Outcome, Refusal, State, Ticked, Translated};
+use paper::{Inspection, Outcome, Refusal, State, TextList, TextRefusal, Ticked, Translated};
 
 #[derive(Clone, Copy)]
 pub struct Typed {
@@ -13,6 +13,8 @@ pub struct Typed {
     pub list: fn(&mut State, &[u16], &[u32], &mut [u16]) -> u16,
     pub translate: fn(&State, &[u8], &mut [u16], &mut [u32]) -> Translated,
     pub report: fn(&mut State, &[u8]) -> Result<String, Refusal>,
+    pub read_list: fn(&[u8]) -> Result<TextList, TextRefusal>,
+    pub inspection: fn(&[u16], &[u32]) -> Result<Inspection, u16>,
     pub write_ir: WriteIr,
     pub write_ccd: WriteCcd,
     pub read_ir: fn(&[u16]) -> Result<IrMeaning, BlockRefusal>,
@@ -31,6 +33,8 @@ impl Typed {
         list: paper::list,
         translate: paper::translate,
         report: paper::report,
+        read_list: paper::read_list,
+        inspection: paper::inspection,
         write_ir: paper::write_ir,
         write_ccd: paper::write_ccd,
         read_ir: paper::read_ir,

@@ -3,9 +3,11 @@
 
 mod blocks;
 mod fault;
+mod inspections;
 mod lists;
 mod plans;
 mod reports;
+mod text_lists;
 mod words;
 
 use compare::parts::PARTS;
@@ -32,6 +34,16 @@ fn faults_in_reports_are_found() {
 }
 
 #[test]
+fn faults_in_text_lists_are_found() {
+    text_lists::FAULTS.iter().for_each(Fault::must_be_found);
+}
+
+#[test]
+fn faults_in_inspections_are_found() {
+    inspections::FAULTS.iter().for_each(Fault::must_be_found);
+}
+
+#[test]
 fn faults_in_blocks_are_found() {
     blocks::FAULTS.iter().for_each(Fault::must_be_found);
 }
@@ -53,6 +65,8 @@ fn every_part_has_a_fault_to_find() {
         lists::FAULTS,
         plans::FAULTS,
         reports::FAULTS,
+        text_lists::FAULTS,
+        inspections::FAULTS,
         blocks::FAULTS,
     ]
     .concat();
