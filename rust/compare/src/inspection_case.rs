@@ -16,6 +16,8 @@ const MOST_ROOM: usize = INSPECTION_LENGTH;
 const NO_BYTE: u8 = 0xBB;
 /// What an answer has in its upper half.
 const UPPER: &str = "length";
+/// Of more words none is left out singly.
+const MOST_SINGLY: usize = 64;
 
 /// A list, and how many places there are for the text.
 #[derive(Clone)]
@@ -82,6 +84,14 @@ impl InspectionCase {
         }
     }
 
+    /// Whether a list with so many of the words is tried when this one is made
+    /// shorter. Long inspections take long: of many words an eighth or more is
+    /// left out, or none.
+    fn is_worth_trying(&self, words: usize) -> bool {
+        let left_out = self.words.len() - words;
+        self.words.len() <= MOST_SINGLY || left_out == 0 || left_out >= self.words.len() / 8
+    }
+
     fn places(&self) -> usize {
         let length = || {
             let inspected = paper::inspection(&self.words, &self.ticks);
@@ -117,6 +127,7 @@ impl Case for InspectionCase {
         let (words, ticks) = (self.words.clone(), self.ticks.clone());
         let list = ListCase::new(&states::power_on(), words, ticks);
         let lists = shorter_lists::shorter(&list).into_iter();
+        let lists = lists.filter(|list| self.is_worth_trying(list.words.len()));
         cases.extend(lists.map(|list| InspectionCase::of(&list, self.room)));
         cases
     }
