@@ -8,6 +8,7 @@ use std::process::{Command, Output};
 
 const PLANS: &str = concat!(env!("CARGO_MANIFEST_DIR"), "/../../examples/plans");
 const LISTS: &str = concat!(env!("CARGO_MANIFEST_DIR"), "/../../examples/lists");
+const README: &str = concat!(env!("CARGO_MANIFEST_DIR"), "/../../README.md");
 const MOST_COLUMNS: usize = 100;
 const LEAST_REPORTS: usize = 4;
 const LEAST_INSPECTIONS: usize = 12;
@@ -50,6 +51,18 @@ fn inspections() {
     }
     let count = inspections.len();
     assert!(count >= LEAST_INSPECTIONS, "{count} inspections");
+}
+
+#[test]
+fn the_readme_shows_stored_texts() {
+    let readme = fs::read_to_string(README).expect("the README is there");
+    for (folder, name) in [
+        (PLANS, "example.report"),
+        (LISTS, "fourth_missing.inspection"),
+    ] {
+        let text = fs::read_to_string(Path::new(folder).join(name)).expect("a stored text");
+        assert!(readme.contains(&format!("```\n{text}```\n")), "{name}");
+    }
 }
 
 /// 1 where the inspection has findings.
