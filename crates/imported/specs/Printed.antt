@@ -17,7 +17,7 @@ refusalTemplate =
     ++ ascii "|the tick is not above the one before"
     ++ ascii "|more than 256 words"
     ++ ascii "|a line after the end"
-    ++ ascii "|more than 8,192 bytes} (line @@@@)\n"
+    ++ ascii "|more than 8,192 bytes} (line @@@@@@@@@@@@@@@@@@@@)\n"
 
 abbrev pub reasonIndex : ℕ → ℕ
 reasonIndex number = number - noHeadLine

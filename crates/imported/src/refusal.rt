@@ -27,7 +27,7 @@ pub fn put_refusal(out: &mut [u8], at: usize, number: u8, line: usize) -> usize
         |the tick is not above the one before\
         |more than 256 words\
         |a line after the end\
-        |more than 8,192 bytes} (line @@@@)\n",
+        |more than 8,192 bytes} (line @@@@@@@@@@@@@@@@@@@@)\n",
         &values,
         &[],
     )
