@@ -17,6 +17,7 @@ use Rattle.head.specs.Numbers.{isCause}
 use Rattle.head.specs.List.{stepped}
 use Rattle.head.specs.declared.state.Head.{Head}
 use Rattle.layout.specs.Numbers.{bit}
+use Rattle.layout.proofs.Bits.{bit-few}
 use Rattle.inspection.specs.Notes.{isExposure}
 use Rattle.inspection.specs.Rows.{numberOf}
 use Rattle.inspection.specs.Counts.{none, counted, countsFrom, findings}
@@ -28,10 +29,6 @@ pub record Few (c : Counts) (i : ℕ) : Type 0 where
   pub exposures : c .exposures ≤ i
   pub incomplete : c .incomplete ≤ i
   pub moving : c .moving ≤ i
-
-bit-few : (b : Bool) → bit b ≤ 1
-bit-few true = omega arith
-bit-few false = omega arith
 
 few-counted : (c : Counts) (i n begun : ℕ) (rest : Bool) → Few c i → Few (counted c n begun rest) (i + 1)
 unfolding counted

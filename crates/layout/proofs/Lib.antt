@@ -8,3 +8,4 @@ pub mod Marks
 pub mod Filling
 pub mod Widths
 pub mod Alternatives
+pub mod Bits

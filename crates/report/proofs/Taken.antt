@@ -15,6 +15,7 @@ use Rattle.head.specs.declared.list.Listed.{Listed}
 use Rattle.head.specs.declared.list.ListAnswer.the-variants.{Done}
 use Rattle.head.proofs.Giving.{numbers-long}
 use Rattle.layout.specs.Numbers.{bit}
+use Rattle.layout.proofs.Bits.{bit-few}
 use Rattle.report.specs.Report.{takenIn}
 
 module _ (n : ℕ) {z : Bool} (is : z ≡ isCause n) where
@@ -32,10 +33,6 @@ pub record Counted (ns : List ℕ) (taken i : ℕ) : Type 0 where
 
 pub counted-first : {ns : List ℕ} → Counted ns 0 0
 counted-first = record { within = omega arith; few = omega arith; left = omega arith }
-
-bit-few : (b : Bool) → bit b ≤ 1
-bit-few true = omega arith
-bit-few false = omega arith
 
 pub taken-few : (n : ℕ) {d : ℕ} → d ≡ bit (not (isCause n)) → d ≤ 1
 taken-few n is = rw is (bit-few (not (isCause n)))

@@ -18,15 +18,12 @@ use Rattle.plan.proofs.Bytes.{checked-fault, checked-order}
 use Rattle.plan.proofs.Walking.{Walking, walking-first, walking-order, walking-whole, walking-sound, walking-next}
 use Rattle.schedule.proofs.OrderLaid.{fit-few}
 use Rattle.layout.specs.Numbers.{bit}
+use Rattle.layout.proofs.Bits.{bit-few}
 use Rattle.layout.specs.Written.{Written}
 use Rattle.layout.proofs.Writing.{Partly, partly-first, partly-next, partly-done}
 use Rattle.report.specs.Read.{rowEntry, entriesIn}
 use Rattle.report.specs.Lines.{isAct, orderLine, exposedAfter, orderLines}
 use Rattle.report.proofs.Rows.{entry-at, part-row, part-long}
-
-bit-few : (b : Bool) → bit b ≤ 1
-bit-few true = omega arith
-bit-few false = omega arith
 
 pub act-one : (c : ℕ) {d : ℕ} → d ≡ bit (isAct c) → d ≤ 1
 act-one c is = rw is (bit-few (isAct c))
