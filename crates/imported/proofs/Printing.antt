@@ -16,9 +16,10 @@ use Rattle.layout.specs.Template.{layout}
 use Rattle.layout.proofs.Overwriting.{sets-front}
 use Rattle.layout.proofs.Writing.{written-none, written-front}
 use Rattle.layout.proofs.Widths.{layout-few}
-use Rattle.import.specs.Read.{importOf, withRoom, wordsIn, ticksIn, importInto, importAfter}
+use Rattle.import.specs.Read.{importOf, withRoom, importInto, importCount, wordLinesIn, wordsIn, ticksIn, importAfter}
 use Rattle.import.specs.declared.read.Import.{Import}
 use Rattle.import.specs.declared.read.Import.the-variants.{Done, Refused, Short}
+use Rattle.import.proofs.Places.{import-not-short}
 use Rattle.import.proofs.Lists.{import-words, import-ticks, import-list}
 use Rattle.inspection.specs.Inspection.{inspectionText, countsOf, inspectedOf, inspectionAfter}
 use Rattle.inspection.specs.declared.counts.Counts.{Counts}
@@ -69,42 +70,50 @@ room-enough (Done n) few = let h = few n refl in rw (le-leb n 256 h)
 room-enough (Refused n l) few = refl
 room-enough (Short n) few = refl
 
-module _ (text : List ℕ) {a : Import} (W T : List ℕ) (roomW : length W ≡ 256) (roomT : length T ≡ 256)
-    (into : a ≡ importInto text (length W) (length T)) where
-  answer : a ≡ importOf text
+-- a list read into two buffers of 256 places
+module _ (text W T : List ℕ) (roomW : length W ≡ 256) (roomT : length T ≡ 256) {a : Import} (into : a ≡ importInto text (length W) (length T)) where
+  pub whole-answer : a ≡ importOf text
   unfolding importInto
-  answer = into ∙ rw (roomW, roomT) (room-enough (importOf text) (λ n e. import-list text e .1 .1))
+  whole-answer = into ∙ rw (roomW, roomT) (room-enough (importOf text) (λ n e. import-list text e .1 .1))
 
+  pub whole-words : {W' : List ℕ} → W' ≡ importAfter a (wordsIn text) W → take (importCount a) W' ≡ wordsIn text
+  unfolding wordsIn wordLinesIn
+  whole-words is = ap (take (importCount a)) is ∙ go a whole-answer
+    where
+      go : (r : Import) → r ≡ importOf text → take (importCount r) (importAfter r (wordsIn text) W) ≡ wordsIn text
+      go (Done n) e = front-read (wordsIn text) W n (import-words text (sym e)) (omega (arith, import-list text (sym e) .1 .1))
+      go (Refused n l) e = rw (← e)
+      go (Short n) e = absurd (import-not-short text (sym e))
+
+  pub whole-ticks : {T' : List ℕ} → T' ≡ importAfter a (ticksIn text) T → take (importCount a) T' ≡ ticksIn text
+  unfolding ticksIn wordLinesIn
+  whole-ticks is = ap (take (importCount a)) is ∙ go a whole-answer
+    where
+      go : (r : Import) → r ≡ importOf text → take (importCount r) (importAfter r (ticksIn text) T) ≡ ticksIn text
+      go (Done n) e = front-read (ticksIn text) T n (import-ticks text (sym e)) (omega (arith, import-list text (sym e) .1 .1))
+      go (Refused n l) e = rw (← e)
+      go (Short n) e = absurd (import-not-short text (sym e))
+
+-- the ways through `printed_over`
+module _ (text : List ℕ) {a : Import} (answer : a ≡ importOf text) where
   module _ {n : ℕ} (done : a ≡ Done n) where
     read : importOf text ≡ Done n
     read = sym answer ∙ done
 
-    few : n ≤ 256
-    few = import-list text read .1 .1
+    pub count-room : {room : ℕ} → room ≡ 256 → n ≤ room
+    count-room is = omega (arith, is, import-list text read .1 .1)
 
-    module _ {W' : List ℕ} (words : W' ≡ importAfter a (wordsIn text) W) {T' : List ℕ} (ticks : T' ≡ importAfter a (ticksIn text) T) where
-      pub words-room : n ≤ length W'
-      unfolding importAfter
-      words-room =
-          let is : W' ≡ sets W 0 (wordsIn text) = words ∙ rw done in
-          omega (arith, ap length is, length-sets W 0 (wordsIn text), few)
+    module _ (W T : List ℕ) (words : take (importCount a) W ≡ wordsIn text) (ticks : take (importCount a) T ≡ ticksIn text) where
+      words-are : take n W ≡ wordsIn text
+      words-are = rw done at words
 
-      pub ticks-room : n ≤ length T'
-      unfolding importAfter
-      ticks-room =
-          let is : T' ≡ sets T 0 (ticksIn text) = ticks ∙ rw done in
-          omega (arith, ap length is, length-sets T 0 (ticksIn text), few)
+      ticks-are : take n T ≡ ticksIn text
+      ticks-are = rw done at ticks
 
-      words-are : take n W' ≡ wordsIn text
-      words-are = ap (take n) (words ∙ rw done) ∙ front-read (wordsIn text) W n (import-words text read) (omega (arith, few))
-
-      ticks-are : take n T' ≡ ticksIn text
-      ticks-are = ap (take n) (ticks ∙ rw done) ∙ front-read (ticksIn text) T n (import-ticks text read) (omega (arith, few))
-
-      pub read-list : isList (take n W') (take n T') ≡ true
+      pub read-list : isList (take n W) (take n T) ≡ true
       read-list = rw (words-are, ticks-are) (import-list text read .0)
 
-      pub printed-done : (old : List ℕ) {k : ℕ} {new : List ℕ} → Front old (inspectionText (take n W') (take n T')) k new → Front old (printedFor text) k new
+      pub printed-done : (old : List ℕ) {k : ℕ} {new : List ℕ} → Front old (inspectionText (take n W) (take n T)) k new → Front old (printedFor text) k new
       unfolding printedFor printedBy
       printed-done old f = rw (read, ← words-are, ← ticks-are) f
 

@@ -12,6 +12,7 @@ ghost use Prim.Native.Nat.{_≤_};
 ghost use lib.ListN.{length, take};
 ghost use Rattle.timed.specs.List.{isList};
 ghost use Rattle.layout.specs.Written.{Front};
+ghost use Rattle.import.specs.Read.{importOf, importCount, wordsIn, ticksIn};
 ghost use Rattle.inspection.specs.Inspection.{inspectionText};
 ghost use Rattle.imported.specs.Printed.{printedFor};
 
@@ -35,6 +36,15 @@ fn inspected_first(words: &[u16], ticks: &[u32], count: usize, out: &mut [u8; LO
     inspected(&words[..count], &ticks[..count], out)
 }
 
+// Reads a list into two buffers with room for every list.
+fn read_whole(text: &[u8], words: &mut [u16; MOST_WORDS], ticks: &mut [u32; MOST_WORDS]) -> Import
+    ensures { λ r. ⌜ r ≡ importOf (now (text .entry)) ⌝ }
+    ensures { λ r. ⌜ take (importCount r) (now (words .exit)) ≡ wordsIn (now (text .entry)) ⌝ }
+    ensures { λ r. ⌜ take (importCount r) (now (ticks .exit)) ≡ ticksIn (now (text .entry)) ⌝ }
+{
+    read_list(text, words, ticks)
+}
+
 // The text for a text list, which is read into two buffers.
 fn printed_over(
     text: &[u8],
@@ -44,7 +54,7 @@ fn printed_over(
 ) -> usize
     ensures { λ r. ⌜ Front (now (out .entry)) (printedFor (now (text .entry))) r (now (out .exit)) ⌝ }
 {
-    let read = read_list(text, words, ticks);
+    let read = read_whole(text, words, ticks);
     match read {
         Import::Done { count } => inspected_first(words, ticks, count, out),
         Import::Refused { number, line } => put_refusal(out, 0, number, line),

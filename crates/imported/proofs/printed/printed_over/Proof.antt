@@ -1,18 +1,18 @@
 -- `imported::printed::printed_over` meets its contract.
 -- Assumes nothing.
-use Rattle.imported.proofs.Printing.{words-room, ticks-room, read-list, printed-done, printed-refused, printed-short}
+use Rattle.imported.proofs.Printing.{count-room, read-list, printed-done, printed-refused, printed-short}
 use borrow.Author.Needs.{needs}
 use Rattle.imported.proofs.printed.printed_over.Statement.{statement}
 use Rattle.imported.proofs.printed.printed_over.Tie as tie
 
-read-list-requires : tie.Need-read-list-requires
-read-list-requires c κs = search needs
+read-whole-requires : tie.Need-read-whole-requires
+read-whole-requires c κs = search needs
 
 enum-known-read : tie.Need-enum-known-read
 enum-known-read c = search needs
 
 inspected-first-requires : tie.Need-inspected-first-requires
-inspected-first-requires c κs = (words-room _ _ _ (search needs) (search needs) (c .before .before .before .before .before .before .before .before .read-list .ensures .0) (c .before .before .before .before .before .before .read .given .1) (c .before .before .before .before .before .before .before .before .read-list .ensures .1 .0) (c .before .before .before .before .before .before .before .before .read-list .ensures .1 .1), (ticks-room _ _ _ (search needs) (search needs) (c .before .before .before .before .before .before .before .before .read-list .ensures .0) (c .before .before .before .before .before .before .read .given .1) (c .before .before .before .before .before .before .before .before .read-list .ensures .1 .0) (c .before .before .before .before .before .before .before .before .read-list .ensures .1 .1), read-list _ _ _ (search needs) (search needs) (c .before .before .before .before .before .before .before .before .read-list .ensures .0) (c .before .before .before .before .before .before .read .given .1) (c .before .before .before .before .before .before .before .before .read-list .ensures .1 .0) (c .before .before .before .before .before .before .before .before .read-list .ensures .1 .1)))
+inspected-first-requires c κs = (search (needs, count-room), (search (needs, count-room), search (needs, read-list)))
 
 enum-known-read-2 : tie.Need-enum-known-read-2
 enum-known-read-2 c = search needs
@@ -24,7 +24,7 @@ enum-told : tie.Need-enum-told
 enum-told c = search needs
 
 returns : tie.Need-returns
-returns c = printed-done _ _ _ (search needs) (search needs) (c .before .before .before .before .before .before .before .before .before .read-list .ensures .0) (c .before .before .before .before .before .before .before .read .given .1) (c .before .before .before .before .before .before .before .before .before .read-list .ensures .1 .0) (c .before .before .before .before .before .before .before .before .before .read-list .ensures .1 .1) _ (c .inspected-first .ensures)
+returns c = search (needs, printed-done)
 
 returns-2 : tie.Need-returns-2
 returns-2 c = search (needs, printed-refused)
@@ -36,7 +36,7 @@ pub printed-over-spec : {M : Type 1} → statement M
 printed-over-spec =
     tie.close
     (tie.spec
-    read-list-requires
+    read-whole-requires
     enum-known-read
     inspected-first-requires
     enum-known-read-2
