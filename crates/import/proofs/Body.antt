@@ -13,7 +13,7 @@ use Rattle.import.specs.Line.{isText, lineOf}
 use Rattle.import.specs.Read.{noHeadLine, afterEnd, lines, begin, next, fault, withWord, withEnd, byLine, judged, judgedAll, readOf, importOf}
 use Rattle.import.specs.declared.line.Line.{Line}
 use Rattle.import.specs.declared.line.Line.the-variants.{Word, End, Other}
-use Rattle.import.specs.declared.read.Progress.{Progress}
+use Rattle.import.specs.declared.progress.Progress.{Progress}
 use Rattle.import.specs.declared.read.Import.the-variants.{Done}
 use Rattle.import.proofs.Judging.{word-early, word-many, word-taken, end-early, end-taken, other-refused, judged-over, judged-after, judged-line}
 use Rattle.import.proofs.Whole.{import-sound}

@@ -11,7 +11,7 @@ use Rattle.import.specs.Line.{isText, lineOf}
 use Rattle.import.specs.Read.{noHeadLine, noWordLine, notRising, tooManyWords, afterEnd, next, fault, withWord, withEnd, byLine, judged, answerBy}
 use Rattle.import.specs.declared.line.Line.{Line}
 use Rattle.import.specs.declared.line.Line.the-variants.{Word, End, Other}
-use Rattle.import.specs.declared.read.Progress.{Progress}
+use Rattle.import.specs.declared.progress.Progress.{Progress}
 use Rattle.import.specs.declared.read.Import.the-variants.{Done, Refused}
 
 module _ (p : Progress) {line : Line} where

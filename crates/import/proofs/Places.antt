@@ -9,7 +9,7 @@ use borrow.Author.Tests.{ltb-false}
 use lib.Dec.{eqb, ltb}
 use lib.ListN.{length, take, length-take}
 use Rattle.import.specs.Read.{noHeadLine, tooLong, mostBytes, before, lines, begin, judged, judgedAll, readOf, answerBy, importOf}
-use Rattle.import.specs.declared.read.Progress.{Progress}
+use Rattle.import.specs.declared.progress.Progress.{Progress}
 use Rattle.import.specs.declared.read.Import.the-variants.{Done, Refused, Short}
 use Rattle.import.proofs.Whole.{one-line}
 

@@ -24,7 +24,7 @@ use Rattle.layout.specs.Numbers.{ascii}
 use Rattle.import.specs.Line.{tickLimit, lineOf}
 use Rattle.import.specs.Read.{mostBytes, lines, begin, next, withWord, withEnd, judged, judgedAll, readOf, answerBy, importOf, importCount, wordOf, tickOf, wordLinesIn, wordsIn, ticksIn}
 use Rattle.import.specs.declared.line.Line.{Line}
-use Rattle.import.specs.declared.read.Progress.{Progress}
+use Rattle.import.specs.declared.progress.Progress.{Progress}
 use Rattle.import.specs.declared.read.Import.the-variants.{Done}
 use Rattle.import.proofs.Judging.{word-taken, end-taken, judged-head, answer-done}
 use Rattle.import.proofs.PlanWords.{Sixteen, plan-words}

@@ -16,7 +16,7 @@ use Rattle.import.specs.FirstLine.{firstLine}
 use Rattle.import.specs.Read.{noHeadLine, notRising, tooManyWords, afterEnd, tooLong, mostBytes, lines, begin, next, fault, withWord, withEnd, byLine, judged, judgedAll, readOf, answerBy, importOf}
 use Rattle.import.specs.declared.line.Line.{Line}
 use Rattle.import.specs.declared.line.Line.the-variants.{Word, End, Other}
-use Rattle.import.specs.declared.read.Progress.{Progress}
+use Rattle.import.specs.declared.progress.Progress.{Progress}
 use Rattle.import.specs.declared.read.Import.{Import}
 use Rattle.import.specs.declared.read.Import.the-variants.{Done, Refused}
 use Rattle.import.proofs.Lines.{lines-at, lines-none, ends-within}

@@ -12,7 +12,7 @@ use Rattle.text.specs.Lines.{headText}
 use Rattle.import.specs.Line.{isText, lineOf}
 use Rattle.import.specs.declared.line.Line.{Line}
 use Rattle.import.specs.declared.line.Line.the-variants.{Word, End, Other}
-use Rattle.import.specs.declared.read.Progress.{Progress}
+use Rattle.import.specs.declared.progress.Progress.{Progress}
 use Rattle.import.specs.declared.read.Import.{Import}
 use Rattle.import.specs.declared.read.Import.the-variants.{Done, Refused, Short}
 

@@ -1,37 +1,20 @@
 // A list read from text: the line that names the columns, a line for each word, and the end, which may be missing.
 use crate::line::Line;
-use crate::line::is_text;
 use crate::line::line_of;
-use timed::MOST_WORDS;
+use crate::progress::Progress;
+use crate::reasons::SHORT;
+use crate::reasons::TOO_LONG;
+use crate::split::line_count;
+use crate::split::line_end;
 ghost use mathlib.Core.Path.{_≡_};
 ghost use mathlib.Core.List.{map};
-ghost use Prim.Native.Nat.{_+_, _≤_, _<_};
-ghost use lib.ListN.{length, drop, set};
+ghost use Prim.Native.Nat.{_≤_, _<_};
+ghost use lib.ListN.{length, set};
 ghost use lib.Seq.{sets};
-ghost use Rattle.timed.specs.List.{mostWords};
-ghost use Rattle.import.specs.FirstLine.{firstLine};
-ghost use Rattle.import.specs.Read.{mostBytes, lines, begin, next, fault, byLine, judged, readOf, answerBy, importOf, importInto, importNumber, importLine, wordOf, tickOf, wordLinesIn, wordsIn, ticksIn, importAfter};
+ghost use Rattle.import.specs.Read.{mostBytes, readOf, importOf, importInto, importNumber, importLine, wordOf, tickOf, wordLinesIn, wordsIn, ticksIn, importAfter};
 
 // The most bytes of a text.
 pub const MOST_BYTES: usize = 8192;
-
-// The reasons of a refusal; their numbers are ours, past those of documents 01 and 02.
-pub const NO_HEAD_LINE: u8 = 91;
-
-pub const NO_WORD_LINE: u8 = 92;
-
-pub const NOT_RISING: u8 = 93;
-
-pub const TOO_MANY_WORDS: u8 = 94;
-
-pub const AFTER_END: u8 = 95;
-
-pub const TOO_LONG: u8 = 96;
-
-// Document 01's number of a short buffer.
-pub const SHORT: u8 = 10;
-
-const NEWLINE: u8 = b'\n';
 
 pub enum Import {
     // The number of words.
@@ -66,125 +49,6 @@ impl Import {
     }
 }
 
-// What has been read: the number of a refusal, 0 for none, lines and words, the least tick that may come, and whether the end came.
-pub(crate) struct Progress {
-    number: u8,
-    line: usize,
-    count: usize,
-    least: u64,
-    ended: bool,
-}
-
-impl Progress {
-    fn begin() -> Progress
-        ensures { λ r. ⌜ r ≡ begin ⌝ }
-    {
-        Progress {
-            number: 0,
-            line: 0,
-            count: 0,
-            least: 0,
-            ended: false,
-        }
-    }
-
-    // One line more.
-    fn next(mut self) -> Progress
-        requires { ⌜ self .line < mostBytes ⌝ }
-        ensures { λ r. ⌜ r ≡ next self ⌝ }
-    {
-        self.line = self.line + 1;
-        self
-    }
-
-    // Refused at the line that was read last.
-    fn fault(mut self, number: u8) -> Progress
-        ensures { λ r. ⌜ r ≡ fault self number ⌝ }
-    {
-        self.number = number;
-        self
-    }
-
-    // A line after the first.
-    fn by_line(mut self, line: Line) -> Progress
-        ensures { λ r. ⌜ r ≡ byLine self line ⌝ }
-    {
-        match line {
-            Line::Word { tick, word: _ } => {
-                if (tick as u64) < self.least {
-                    return self.fault(NOT_RISING);
-                }
-                if MOST_WORDS <= self.count {
-                    return self.fault(TOO_MANY_WORDS);
-                }
-                self.count = self.count + 1;
-                self.least = tick as u64 + 1;
-                self
-            }
-            Line::End { tick } => {
-                if (tick as u64) < self.least {
-                    return self.fault(NOT_RISING);
-                }
-                self.ended = true;
-                self
-            }
-            Line::Other => self.fault(NO_WORD_LINE),
-        }
-    }
-
-    fn judged(self, line: &[u8]) -> Progress
-        requires { ⌜ self .line < mostBytes ⌝ }
-        ensures { λ r. ⌜ r ≡ judged self (now (line .entry)) ⌝ }
-    {
-        if self.number != 0 {
-            return self;
-        }
-        let next = self.next();
-        if self.line == 0 {
-            if is_text(line, b"tick word") {
-                return next;
-            }
-            return next.fault(NO_HEAD_LINE);
-        }
-        if self.ended {
-            return next.fault(AFTER_END);
-        }
-        next.by_line(line_of(line))
-    }
-
-    fn answer(self) -> Import
-        ensures { λ r. ⌜ r ≡ answerBy self ⌝ }
-    {
-        if self.number != 0 {
-            return Import::Refused {
-                number: self.number,
-                line: self.line,
-            };
-        }
-        if self.line == 0 {
-            return Import::Refused {
-                number: NO_HEAD_LINE,
-                line: 1,
-            };
-        }
-        Import::Done { count: self.count }
-    }
-}
-
-// The place of the newline of a line that begins at a place, or the text's end.
-fn line_end(text: &[u8], at: usize) -> usize
-    ensures { λ r. ⌜ r ≡ at + length (firstLine (drop at (now (text .entry)))) ⌝ }
-{
-    let mut end = at;
-    while end < text.len() {
-        if text[end] == NEWLINE {
-            return end;
-        }
-        end = end + 1;
-    }
-    end
-}
-
 // Reads every line.
 fn judge(text: &[u8]) -> Progress
     requires { ⌜ length (now text) ≤ mostBytes ⌝ }
@@ -198,18 +62,6 @@ fn judge(text: &[u8]) -> Progress
         at = end + 1;
     }
     progress
-}
-
-fn line_count(text: &[u8]) -> usize
-    ensures { λ r. ⌜ r ≡ length (lines (now (text .entry))) ⌝ }
-{
-    let mut count: usize = 0;
-    let mut at: usize = 0;
-    while at < text.len() {
-        at = line_end(text, at) + 1;
-        count = count + 1;
-    }
-    count
 }
 
 // The answer alone.

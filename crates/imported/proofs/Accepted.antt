@@ -4,10 +4,11 @@
 use mathlib.Core.Path.{_≡_, refl, sym, ap, _∙_}
 use mathlib.Core.Bool.{Bool, true, false, not, _&&_}
 use mathlib.Core.List.{List, [], _∷_}
-use Prim.Native.Nat.{ℕ, _+_}
+use Prim.Native.Nat.{ℕ, _+_, _≤_}
 use native.Mathlib.Omega.{arith}
-use borrow.Author.Tests.{eqb-true}
+use borrow.Author.Tests.{eqb-true, le-ltb}
 use lib.Dec.{eqb, ltb}
+use lib.ListN.{length}
 use Rattle.head.specs.State.{powerOn}
 use Rattle.head.specs.Busy.{atRest}
 use Rattle.head.specs.Word.{answerOf}
@@ -16,10 +17,12 @@ use Rattle.head.specs.List.{stepped}
 use Rattle.head.specs.declared.state.Head.{Head}
 use Rattle.orders.specs.declared.order.Order.{Order}
 use Rattle.plan.specs.Stored.{orders, planOf}
-use Rattle.schedule.specs.Translate.{scheduleOf, wordList, tickList}
+use Rattle.schedule.specs.Translate.{mostWords, scheduleOf, wordList, tickList}
+use Rattle.schedule.proofs.Accepted.{accepted-done}
 use Rattle.run.specs.Listed.{Ready}
 use Rattle.run.proofs.Ready.{power-on-fit, power-on-ready}
 use Rattle.layout.specs.Numbers.{bit}
+use Rattle.text.specs.Listing as Listing
 use Rattle.text.specs.Listing.{planText}
 use Rattle.import.specs.Read.{importOf, wordsIn, ticksIn}
 use Rattle.import.proofs.Round.{ReadsAs, plan-read}
@@ -55,8 +58,16 @@ none-each : (c : Counts) → findings c ≡ 0 → (c .ignored ≡ 0) × ((c .inc
 unfolding findings
 none-each c h = (omega arith, (omega arith, omega arith))
 
--- what is said of an accepted plan, its words and its ticks
+-- the listing program prints the listing of an accepted plan
+listing-printed : (bs : List ℕ) (os : List Order) → planOf bs ≡ orders os → length bs ≤ 4096 → Listing.printedFor bs ≡ planText powerOn bs
+unfolding Listing.printedFor Listing.answerText Listing.listedOf Listing.listedBy
+listing-printed bs os e few =
+    rw (le-ltb 4096 (length bs) few, accepted-done powerOn bs os power-on-fit e mostWords mostWords (omega arith) (omega arith))
+
+-- what is said of an accepted plan, its words and its ticks: what the listing program prints for it, that this reads back, and what the
+-- inspection of it prints and counts
 pub record RoundTrip (bs ws ts : List ℕ) : Type 0 where
+  pub listed : length bs ≤ 4096 → Listing.printedFor bs ≡ planText powerOn bs
   pub read : ReadsAs (planText powerOn bs) ws ts
   pub printed : printedFor (planText powerOn bs) ≡ inspectionText ws ts
   pub ignored : countsOf ws ts .ignored ≡ 0
@@ -71,6 +82,7 @@ accepted-inspected bs os e =
     let back = plan-read powerOn bs e power-on-fit in
     let clean = none-each (countsOf (wordList sch) (tickList sch)) (ready-clean none (wordList sch) (tickList sch) powerOn (power-on-ready bs os e)) in
     record {
+      listed = listing-printed bs os e;
       read = back;
       printed = rw (back .done, back .words, back .ticks);
       ignored = clean .0;

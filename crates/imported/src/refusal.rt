@@ -1,5 +1,5 @@
 // A refusal of a text list in words: number, reason and line.
-use import::read::NO_HEAD_LINE;
+use import::reasons::NO_HEAD_LINE;
 use layout::template::put_template;
 ghost use mathlib.Core.Path.{_≡_};
 ghost use Rattle.layout.specs.Written.{Written};

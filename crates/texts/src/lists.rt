@@ -3,7 +3,7 @@ use crate::arrays::packed;
 use crate::handing::hand_over_counted;
 use crate::handing::hand_over_wording;
 use import::read::Import;
-use import::read::SHORT;
+use import::reasons::SHORT;
 use imported::refusal::put_refusal;
 use inspection::inspection::Inspected;
 use inspection::inspection::LONGEST;

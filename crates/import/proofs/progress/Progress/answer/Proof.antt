@@ -1,9 +1,9 @@
--- `import::read::Progress::answer` meets its contract.
+-- `import::progress::Progress::answer` meets its contract.
 -- Assumes nothing.
 use Rattle.import.proofs.Judging.{answer-refused, answer-none, answer-done}
 use borrow.Author.Needs.{needs}
-use Rattle.import.proofs.read.Progress.answer.Statement.{statement}
-use Rattle.import.proofs.read.Progress.answer.Tie as tie
+use Rattle.import.proofs.progress.Progress.answer.Statement.{statement}
+use Rattle.import.proofs.progress.Progress.answer.Tie as tie
 
 returns : tie.Need-returns
 returns c = search (needs, answer-refused)

@@ -1,12 +1,12 @@
--- `import::read::line_count` meets its contract. The loop's invariant: the lines before a place are counted.
+-- `import::split::line_count` meets its contract. The loop's invariant: the lines before a place are counted.
 -- Assumes nothing.
 use Prim.Native.Nat.{_-_}
 use lib.ListN.{length}
 use native.Mathlib.Omega.{arith}
 use Rattle.import.proofs.Lines.{Passing, passing-first, passing-next, passed, ends-within}
 use borrow.Author.Needs.{needs}
-use Rattle.import.proofs.read.line_count.Statement.{statement}
-use Rattle.import.proofs.read.line_count.Tie as tie
+use Rattle.import.proofs.split.line_count.Statement.{statement}
+use Rattle.import.proofs.split.line_count.Tie as tie
 
 abbrev Inv-loop : tie.InvT-loop
 Inv-loop text count₀ at₀ count at = Passing text count at

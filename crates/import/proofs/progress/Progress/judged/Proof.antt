@@ -1,11 +1,11 @@
--- `import::read::Progress::judged` meets its contract.
+-- `import::progress::Progress::judged` meets its contract.
 -- Assumes nothing.
 use Rattle.import.proofs.Judging.{judged-over, judged-head, judged-no-head, judged-after, judged-line}
 use Rattle.layout.specs.Numbers.{ascii}
 use Rattle.text.specs.Lines.{headText}
 use borrow.Author.Needs.{needs}
-use Rattle.import.proofs.read.Progress.judged.Statement.{statement}
-use Rattle.import.proofs.read.Progress.judged.Tie as tie
+use Rattle.import.proofs.progress.Progress.judged.Statement.{statement}
+use Rattle.import.proofs.progress.Progress.judged.Tie as tie
 
 returns : tie.Need-returns
 returns c = search (needs, judged-over)

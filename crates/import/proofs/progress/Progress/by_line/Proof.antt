@@ -1,9 +1,9 @@
--- `import::read::Progress::by_line` meets its contract.
+-- `import::progress::Progress::by_line` meets its contract.
 -- Assumes nothing.
 use Rattle.import.proofs.Judging.{word-early, word-many, word-taken, end-early, end-taken, other-refused}
 use borrow.Author.Needs.{needs}
-use Rattle.import.proofs.read.Progress.by_line.Statement.{statement}
-use Rattle.import.proofs.read.Progress.by_line.Tie as tie
+use Rattle.import.proofs.progress.Progress.by_line.Statement.{statement}
+use Rattle.import.proofs.progress.Progress.by_line.Tie as tie
 
 enum-known-line : tie.Need-enum-known-line
 enum-known-line c = search needs

@@ -1,11 +1,11 @@
--- `import::read::line_end` meets its contract. The loop's invariant: no newline stands before the end.
+-- `import::split::line_end` meets its contract. The loop's invariant: no newline stands before the end.
 -- Assumes nothing.
 use Prim.Native.Nat.{_-_}
 use lib.ListN.{length}
 use Rattle.import.proofs.Scanning.{Scanning, scanning-first, scanning-next, scanned-found, scanned-all}
 use borrow.Author.Needs.{needs}
-use Rattle.import.proofs.read.line_end.Statement.{statement}
-use Rattle.import.proofs.read.line_end.Tie as tie
+use Rattle.import.proofs.split.line_end.Statement.{statement}
+use Rattle.import.proofs.split.line_end.Tie as tie
 
 abbrev Inv-loop : tie.InvT-loop
 Inv-loop text at end₀ end = Scanning text at end
