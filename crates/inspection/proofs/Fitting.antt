@@ -16,6 +16,7 @@ use Rattle.words.specs.Fields.{direction, wave, sensors, steps}
 use Rattle.timed.specs.List.{mostWords, isList}
 use Rattle.timed.proofs.Rising.{list-few}
 use Rattle.head.specs.State.{powerOn}
+use Rattle.head.specs.Busy.{busyTicks}
 use Rattle.head.specs.Word.{answerOf}
 use Rattle.head.specs.Numbers.{isCause}
 use Rattle.head.specs.List.{stepped, headListed}
@@ -76,7 +77,7 @@ effects-few n w s z = go (isCause n)
     effect = layout effectTemplate (effectShown (kindOf (identifier w)) (bitsOf w) (z .settings) (z .motion)) []
 
     stop : List ℕ
-    stop = layout stopTemplate (stoppedTask (kindOf (identifier w)) (s .work .task) (s .work .busy) ∷ s .work .busy ∷ []) []
+    stop = layout stopTemplate (stoppedTask (kindOf (identifier w)) (s .work .task) (busyTicks s) ∷ busyTicks s ∷ []) []
 
     go : (x : Bool) → length (cond x [] (effect ++ stop)) ≤ mostOf effectTemplate + mostOf stopTemplate
     go true = omega arith
@@ -85,7 +86,7 @@ effects-few n w s z = go (isCause n)
           arith,
           length-append effect stop,
           layout-most effectTemplate (effectShown (kindOf (identifier w)) (bitsOf w) (z .settings) (z .motion)) [],
-          layout-most stopTemplate (stoppedTask (kindOf (identifier w)) (s .work .task) (s .work .busy) ∷ s .work .busy ∷ []) [],
+          layout-most stopTemplate (stoppedTask (kindOf (identifier w)) (s .work .task) (busyTicks s) ∷ busyTicks s ∷ []) [],
         )
 
 set-few : (which received : ℕ) → length (setText which received) ≤ mostOf setTemplate
@@ -105,7 +106,7 @@ motion-few n mirror cover =
 notes-few : (n w : ℕ) (s z : Head) → length (notesText n w s z) ≤ mostNotes
 unfolding notesText causeText
 notes-few n w s z =
-    let cause = layout causeTemplate (causeShown n (s .work .busy) (s .motion .cover)) [] in
+    let cause = layout causeTemplate (causeShown n (busyTicks s) (s .motion .cover)) [] in
     let effects = effectsText n w s z in
     let case = setCase n (kindOf (identifier w)) (s .begun .count) (z .begun .count) in
     let set = setText case (s .begun .count) in
@@ -115,7 +116,7 @@ notes-few n w s z =
       length-append (cause ++ effects ++ set) motion,
       length-append (cause ++ effects) set,
       length-append cause effects,
-      layout-most causeTemplate (causeShown n (s .work .busy) (s .motion .cover)) [],
+      layout-most causeTemplate (causeShown n (busyTicks s) (s .motion .cover)) [],
       effects-few n w s z,
       set-few case (s .begun .count),
       motion-few n (s .motion .mirror) (s .motion .cover),
@@ -154,7 +155,7 @@ word-few line tick w s =
     let z = answerOf s w .head in
     let place = placeText line tick w n in
     let kind = layout kindTemplate (kindOf (identifier w) ∷ []) [] in
-    let saying = sayingText n w (z .settings .sine) (z .settings .cosine) (z .work .busy) in
+    let saying = sayingText n w (z .settings .sine) (z .settings .cosine) (busyTicks z) in
     omega (
       arith,
       length-append (place ++ kind ++ saying) (notesText n w s z),
@@ -162,7 +163,7 @@ word-few line tick w s =
       length-append place kind,
       place-few line tick w n,
       layout-most kindTemplate (kindOf (identifier w) ∷ []) [],
-      saying-few n w (z .settings .sine) (z .settings .cosine) (z .work .busy),
+      saying-few n w (z .settings .sine) (z .settings .cosine) (busyTicks z),
       notes-few n w s z,
     )
 

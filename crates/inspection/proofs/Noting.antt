@@ -9,6 +9,7 @@ use lib.Dec.{eqb, ltb}
 use lib.ListN.{length}
 use Rattle.words.specs.Kinds as kind
 use Rattle.words.specs.Kinds.{identifier, bitsOf, kindOf}
+use Rattle.head.specs.Busy.{busyTicks}
 use Rattle.head.specs.Numbers.{isCause}
 use Rattle.head.specs.declared.state.Settings.{Settings}
 use Rattle.head.specs.declared.state.Motion.{Motion}
@@ -172,7 +173,7 @@ module _ (n w : ℕ) (s z : Head) {x : Bool} (cause : x ≡ isCause n) {l : List
       → {p : ℕ} {m : List ℕ} → Written l at (effectText k (bitsOf w) (z .settings) (z .motion)) p m
       → {q : ℕ} {j : List ℕ} → Written m p (stopText k (s .work .task) (s .work .busy)) q j
       → Written l at (effectsText n w s z) q j
-  unfolding effectsText
+  unfolding effectsText busyTicks
   effects-some e is first second = rw (← cause, e, ← is) (written-then first second)
 
 module _ (n w : ℕ) (s z : Head) {l : List ℕ} {at p₁ : ℕ} {m₁ : List ℕ} {p₂ : ℕ} {m₂ : List ℕ} {p₃ : ℕ} {m₃ : List ℕ} {p₄ : ℕ} {m₄ : List ℕ} where
@@ -181,5 +182,5 @@ module _ (n w : ℕ) (s z : Head) {l : List ℕ} {at p₁ : ℕ} {m₁ : List �
       → Written m₂ p₂ (setText c (s .begun .count)) p₃ m₃
       → Written m₃ p₃ (motionText n (s .motion .mirror) (s .motion .cover)) p₄ m₄
       → Written l at (notesText n w s z) p₄ m₄
-  unfolding notesText
+  unfolding notesText busyTicks
   written-notes cause effects kind case set motion = written-four cause effects (rw (case, kind) at set) motion

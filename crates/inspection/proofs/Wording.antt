@@ -11,6 +11,7 @@ use lib.Seq.{drop-cons}
 use Rattle.timed.specs.List.{isList, mostWords}
 use Rattle.timed.proofs.Rising.{list-even, list-few}
 use Rattle.head.specs.State.{powerOn}
+use Rattle.head.specs.Busy.{busyTicks}
 use Rattle.head.specs.Word.{answerOf}
 use Rattle.head.specs.Tick.{ticksOf}
 use Rattle.head.specs.Numbers.{outcomeNumber, isCause}
@@ -55,7 +56,7 @@ module _ (line tick w : ℕ) (s : Head) (a : Answered) (answer : a ≡ answerOf 
       → Written m₂ p₂ (sayingText n w (a .head .settings .sine) (a .head .settings .cosine) (a .head .work .busy)) p₃ m₃
       → Written m₃ p₃ (notesText n w s (a .head)) p₄ m₄
       → Written l at (wordText line tick w s) p₄ m₄
-  unfolding wordText
+  unfolding wordText busyTicks
   written-word place kind saying notes =
       rw (← answer, ← number) (written-four place kind saying notes)
 

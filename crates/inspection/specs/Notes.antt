@@ -7,6 +7,7 @@ use mathlib.Core.List.{List, [], _∷_, _++_}
 use lib.Dec.{eqb, ltb}
 use Rattle.words.specs.Kinds as kind
 use Rattle.words.specs.Kinds.{identifier, bitsOf, kindOf}
+use Rattle.head.specs.Busy.{busyTicks}
 use Rattle.head.specs.Numbers.{isCause}
 use Rattle.head.specs.declared.state.Settings.{Settings}
 use Rattle.head.specs.declared.state.Motion.{Motion}
@@ -115,11 +116,11 @@ motionText n mirror cover =
 unfoldable pub effectsText : ℕ → ℕ → Head → Head → List ℕ
 effectsText n w s z =
     let k = kindOf (identifier w) in
-    cond (isCause n) [] (effectText k (bitsOf w) (z .settings) (z .motion) ++ stopText k (s .work .task) (s .work .busy))
+    cond (isCause n) [] (effectText k (bitsOf w) (z .settings) (z .motion) ++ stopText k (s .work .task) (busyTicks s))
 
 unfoldable pub notesText : ℕ → ℕ → Head → Head → List ℕ
 notesText n w s z =
-    causeText n (s .work .busy) (s .motion .cover)
+    causeText n (busyTicks s) (s .motion .cover)
     ++ effectsText n w s z
     ++ setText (setCase n (kindOf (identifier w)) (s .begun .count) (z .begun .count)) (s .begun .count)
     ++ motionText n (s .motion .mirror) (s .motion .cover)

@@ -3,6 +3,7 @@
 use Prim.Native.Nat.{ℕ, _+_}
 use mathlib.Core.Bool.{cond}
 use mathlib.Core.List.{List, [], _∷_, _++_}
+use Rattle.head.specs.Busy.{busyTicks}
 use Rattle.head.specs.Word.{answerOf}
 use Rattle.head.specs.Numbers.{outcomeNumber, isCause}
 use Rattle.head.specs.List.{stepped}
@@ -41,7 +42,7 @@ unfoldable pub wordText : ℕ → ℕ → ℕ → Head → List ℕ
 wordText line tick w s =
     let n = numberOf s w in
     let z = answerOf s w .head in
-    placeText line tick w n ++ kindText w ++ sayingText n w (z .settings .sine) (z .settings .cosine) (z .work .busy) ++ notesText n w s z
+    placeText line tick w n ++ kindText w ++ sayingText n w (z .settings .sine) (z .settings .cosine) (busyTicks z) ++ notesText n w s z
 
 -- The words of a list from the head s on; the first is on this line of the input.
 unfoldable pub wordsText : ℕ → List ℕ → List ℕ → Head → List ℕ
