@@ -217,6 +217,9 @@ uint64_t shabgozim_translate(const uint16_t *state, size_t state_length,
  * Texts for people: the listing of a plan, the report of its simulation, the
  * inspection of a list, and a refusal in words. They are ASCII, every line ends
  * in a newline, and no zero follows them.
+ *
+ * A text is made on the stack before it is handed over: `shabgozim_report` takes
+ * about 80 KB of it, `shabgozim_inspection` about 270 KB.
  */
 
 /* Bytes that have room for every text of their kind. */
