@@ -2,12 +2,12 @@
 -- Assumes nothing.
 use mathlib.Core.Path.{_≡_, refl, sym, ap, _∙_}
 use mathlib.Core.Bool.{Bool, true, false, cond}
-use mathlib.Core.List.{List, [], _∷_, _++_}
+use mathlib.Core.List.{List, [], _∷_, map}
 use Prim.Native.Nat.{ℕ, _-_, _≤_, min}
 use native.Mathlib.Nat.{zero-add}
 use native.Mathlib.Omega.{arith}
 use borrow.Author.Tests.{le-leb}
-use lib.ListN.{length, take, drop, length-replicate}
+use lib.ListN.{length, take, drop, length-map}
 use lib.Seq.{sets, length-sets, take-at, length-take-le}
 use Rattle.timed.specs.List.{isList}
 use Rattle.layout.specs.Numbers.{ascii}
@@ -16,11 +16,12 @@ use Rattle.layout.specs.Template.{layout}
 use Rattle.layout.proofs.Overwriting.{sets-front}
 use Rattle.layout.proofs.Writing.{written-none, written-front}
 use Rattle.layout.proofs.Widths.{layout-few}
-use Rattle.import.specs.Read.{importOf, withRoom, importInto, importCount, wordLinesIn, wordsIn, ticksIn, importAfter}
+use Rattle.import.specs.Read.{importOf, withRoom, importInto, importCount, wordOf, tickOf, wordLinesIn, wordsIn, ticksIn, importAfter}
+use Rattle.import.specs.declared.line.Line.{Line}
 use Rattle.import.specs.declared.read.Import.{Import}
 use Rattle.import.specs.declared.read.Import.the-variants.{Done, Refused, Short}
 use Rattle.import.proofs.Places.{import-not-short}
-use Rattle.import.proofs.Lists.{import-words, import-ticks, import-list}
+use Rattle.import.proofs.Lists.{import-words, import-list}
 use Rattle.inspection.specs.Inspection.{inspectionText, countsOf, inspectedOf, inspectionAfter}
 use Rattle.inspection.specs.declared.counts.Counts.{Counts}
 use Rattle.inspection.specs.declared.inspection.Inspected.{Inspected}
@@ -53,7 +54,7 @@ pub written-refusal : (number line : ℕ) {i : ℕ} → i ≡ reasonIndex number
 unfolding refusalText
 written-refusal number line is w = rw is at w
 
-refusal-few : (number line : ℕ) → length (refusalText number line) ≤ 262144
+pub refusal-few : (number line : ℕ) → length (refusalText number line) ≤ 256
 unfolding refusalText refusalTemplate ascii
 refusal-few number line = omega (arith, layout-few refusalTemplate (number ∷ reasonIndex number ∷ line ∷ []) [])
 
@@ -76,23 +77,32 @@ module _ (text W T : List ℕ) (roomW : length W ≡ 256) (roomT : length T ≡ 
   unfolding importInto
   whole-answer = into ∙ rw (roomW, roomT) (room-enough (importOf text) (λ n e. import-list text e .1 .1))
 
-  pub whole-words : {W' : List ℕ} → W' ≡ importAfter a (wordsIn text) W → take (importCount a) W' ≡ wordsIn text
-  unfolding wordsIn wordLinesIn
-  whole-words is = ap (take (importCount a)) is ∙ go a whole-answer
+  -- a number of each line of a word
+  abbrev numbers : (Line → ℕ) → List ℕ
+  numbers f = map f (wordLinesIn (importCount (importOf text)) text)
+
+  numbers-long : (f : Line → ℕ) {n : ℕ} → importOf text ≡ Done n → length (numbers f) ≡ n
+  unfolding wordsIn
+  numbers-long f e =
+      let read = wordLinesIn (importCount (importOf text)) text in
+      length-map read f ∙ sym (length-map read wordOf) ∙ import-words text e
+
+  whole-front : (f : Line → ℕ) (old : List ℕ) → length old ≡ 256 → take (importCount a) (importAfter a (numbers f) old) ≡ numbers f
+  unfolding wordLinesIn
+  whole-front f old room = go a whole-answer
     where
-      go : (r : Import) → r ≡ importOf text → take (importCount r) (importAfter r (wordsIn text) W) ≡ wordsIn text
-      go (Done n) e = front-read (wordsIn text) W n (import-words text (sym e)) (omega (arith, import-list text (sym e) .1 .1))
+      go : (r : Import) → r ≡ importOf text → take (importCount r) (importAfter r (numbers f) old) ≡ numbers f
+      go (Done n) e = front-read (numbers f) old n (numbers-long f (sym e)) (omega (arith, import-list text (sym e) .1 .1))
       go (Refused n l) e = rw (← e)
       go (Short n) e = absurd (import-not-short text (sym e))
 
+  pub whole-words : {W' : List ℕ} → W' ≡ importAfter a (wordsIn text) W → take (importCount a) W' ≡ wordsIn text
+  unfolding wordsIn
+  whole-words is = ap (take (importCount a)) is ∙ whole-front wordOf W roomW
+
   pub whole-ticks : {T' : List ℕ} → T' ≡ importAfter a (ticksIn text) T → take (importCount a) T' ≡ ticksIn text
-  unfolding ticksIn wordLinesIn
-  whole-ticks is = ap (take (importCount a)) is ∙ go a whole-answer
-    where
-      go : (r : Import) → r ≡ importOf text → take (importCount r) (importAfter r (ticksIn text) T) ≡ ticksIn text
-      go (Done n) e = front-read (ticksIn text) T n (import-ticks text (sym e)) (omega (arith, import-list text (sym e) .1 .1))
-      go (Refused n l) e = rw (← e)
-      go (Short n) e = absurd (import-not-short text (sym e))
+  unfolding ticksIn
+  whole-ticks is = ap (take (importCount a)) is ∙ whole-front tickOf T roomT
 
 -- the ways through `printed_over`
 module _ (text : List ℕ) {a : Import} (answer : a ≡ importOf text) where

@@ -2,17 +2,15 @@
 -- Assumes nothing.
 use mathlib.Core.Path.{_≡_, refl, sym, ap, _∙_}
 use mathlib.Core.Bool.{Bool, true, false, cond, not, _&&_}
-use mathlib.Core.List.{List, [], _∷_}
+use mathlib.Core.List.{List}
 use Prim.Native.Nat.{ℕ, _≤_, _<_, _^_, min}
 use native.Mathlib.Omega.{arith}
 use borrow.Author.Tests.{not-true, not-false}
 use lib.Dec.{leb}
 use lib.ListN.{length, take}
 use Rattle.timed.specs.List.{isList}
-use Rattle.layout.specs.Numbers.{ascii}
 use Rattle.layout.specs.Written.{Written, Front}
 use Rattle.layout.proofs.Writing.{written-front, front-text}
-use Rattle.layout.proofs.Widths.{layout-few}
 use Rattle.head.specs.List.{listAnswerNumber}
 use Rattle.interface.specs.Plans.{packed}
 use Rattle.import.specs.Read.{mostBytes, importOf, withRoom, importInto, importNumber, importAfter, wordsIn, ticksIn}
@@ -27,8 +25,8 @@ use Rattle.inspection.specs.declared.inspection.Inspected.{Inspected}
 use Rattle.inspection.specs.declared.inspection.Inspected.the-variants as inspected
 use Rattle.inspection.proofs.Counting.{findings-few}
 use Rattle.inspection.proofs.Fitting.{inspection-fits}
-use Rattle.imported.specs.Printed.{refusalTemplate, reasonIndex, refusalText}
-use Rattle.imported.proofs.Printing.{inspected-done}
+use Rattle.imported.specs.Printed.{refusalText}
+use Rattle.imported.proofs.Printing.{inspected-done, refusal-few}
 use Rattle.interface.proofs.Translation.{differ}
 use Rattle.texts.specs.Texts.{hasRoom, textAfter, countedAnswer}
 use Rattle.texts.specs.Lists.{readPlace, readAnswer, wordsLeft, ticksLeft, inspectionAnswer, inspectionLeft, isListRefusal, listRefusalLength, listRefusalLeft}
@@ -151,10 +149,6 @@ module _ (ws ts m : List ℕ) (whole : length m ≡ 262144) {a : Inspected} (ans
     uninspected-left = rw no-list
 
 -- a refusal of a text in an array of 256 places
-refusal-few : (number line : ℕ) → length (refusalText number line) ≤ 256
-unfolding refusalText refusalTemplate ascii
-refusal-few number line = omega (arith, layout-few refusalTemplate (number ∷ reasonIndex number ∷ line ∷ []) [])
-
 module _ (number line : ℕ) {m : List ℕ} {n : ℕ} {made : List ℕ} (w : Written m 0 (refusalText number line) n made) (whole : length m ≡ 256) where
   list-wording : Front m (refusalText number line) n made
   list-wording = written-front w (omega (arith, refusal-few number line))
