@@ -2,3 +2,4 @@ pub mod Fields
 pub mod Kinds
 pub mod Codec
 pub mod Count
+pub mod UpperByte

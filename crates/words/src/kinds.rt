@@ -55,8 +55,11 @@ pub const SWITCH: u8 = 26;
 
 pub const COVER: u8 = 27;
 
-// How many kinds there are; also what stands for an identifier that no kind has.
+// How many kinds there are.
 pub const KINDS: u8 = 28;
+
+// What stands for an identifier that no kind has.
+pub const NONE: u8 = KINDS;
 
 // The largest number of steps in a COVER word.
 pub const MOST_STEPS: u16 = 81;

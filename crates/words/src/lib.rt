@@ -1,5 +1,6 @@
 // The 28 command words of VIRTIS-M, to and from words (document 01, "The words").
 pub mod kinds;
+pub mod upper_byte;
 
 use kinds::ANNEALING;
 use kinds::CCD_DELAY;
@@ -17,6 +18,7 @@ use kinds::IR_WIN_MODE;
 use kinds::KINDS;
 use kinds::LEAST_CCD_DELAY;
 use kinds::MOST_STEPS;
+use kinds::NONE;
 use kinds::NOP;
 use kinds::SHUTTER;
 use kinds::SIN_L;
@@ -166,7 +168,7 @@ pub fn allows(kind: u8, bits: u16) -> bool
     (least(kind) <= bits) & (bits <= greatest(kind)) & steps
 }
 
-// The kind of a word's identifier; KINDS where no kind has it.
+// The kind of a word's identifier; NONE where no kind has it.
 pub fn kind_of(word: u16) -> u8
     ensures { λ r. ⌜ r ≡ kindOf (identifier word) ⌝ }
 {
@@ -199,7 +201,7 @@ pub fn kind_of(word: u16) -> u8
         0x38 => COS_L,
         0x3A => WIN_Y2,
         0x3C => IR_DELAY,
-        _ => KINDS,
+        _ => NONE,
     }
 }
 
