@@ -26,9 +26,11 @@ use Rattle.head.specs.declared.state.Head.{Head}
 use Rattle.layout.specs.Numbers.{bit, ascii, hexOf}
 use Rattle.layout.specs.Template.{layout}
 use Rattle.layout.proofs.Alternatives.{mostFrom, mostOf, layout-most}
+use Rattle.names.specs.Kind.{kindName}
+use Rattle.names.proofs.Fitting.{mostKind, kind-few}
 use Rattle.registers.specs.Settings.{mirrorTemplate, irTemplate, ccdTemplate, lampsTemplate, settingsText, pairTemplate, pairText}
 use Rattle.registers.proofs.Fitting.{mostSettings, settings-few}
-use Rattle.inspection.specs.Meaning.{kindTemplate, dataTemplate, coverTemplate, unknownTemplate, rangeTemplate, coverText, valueText, dataText, unknownText, rangeText, meaningText, kindText, choiceOf, valueOf}
+use Rattle.inspection.specs.Meaning.{dataTemplate, coverTemplate, unknownTemplate, rangeTemplate, coverText, valueText, dataText, unknownText, rangeText, meaningText, kindText, choiceOf, valueOf}
 use Rattle.inspection.specs.Notes as note
 use Rattle.inspection.specs.Notes.{isExposure, causeTemplate, causeShown, causeText, effectTemplate, effectShown, effectText, stopTemplate, stoppedTask, stopText, setTemplate, setCase, toldReceived, setText, coverMovesTemplate, motionShown, motionText, effectsText, notesText}
 use Rattle.inspection.specs.Rows.{placeTemplate, outcomeTemplate, tickText, outcomeText, placeText, sayingText, numberOf, wordText, wordsText}
@@ -127,7 +129,7 @@ abbrev mostPlace : ℕ
 mostPlace = mostOf placeTemplate + 4 + mostOf outcomeTemplate
 
 abbrev mostWord : ℕ
-mostWord = mostPlace + mostOf kindTemplate + (mostOf pairTemplate + mostMeaning) + mostNotes
+mostWord = mostPlace + mostKind + (mostOf pairTemplate + mostMeaning) + mostNotes
 
 place-few : (line tick w n : ℕ) → length (placeText line tick w n) ≤ mostPlace
 unfolding placeText tickText outcomeText hexOf
@@ -154,7 +156,7 @@ word-few line tick w s =
     let n = numberOf s w in
     let z = answerOf s w .head in
     let place = placeText line tick w n in
-    let kind = layout kindTemplate (kindOf (identifier w) ∷ []) [] in
+    let kind = kindName (kindOf (identifier w)) in
     let saying = sayingText n w (z .settings .sine) (z .settings .cosine) (busyTicks z) in
     omega (
       arith,
@@ -162,7 +164,7 @@ word-few line tick w s =
       length-append (place ++ kind) saying,
       length-append place kind,
       place-few line tick w n,
-      layout-most kindTemplate (kindOf (identifier w) ∷ []) [],
+      kind-few (kindOf (identifier w)),
       saying-few n w (z .settings .sine) (z .settings .cosine) (busyTicks z),
       notes-few n w s z,
     )
@@ -208,7 +210,7 @@ abbrev mostText : ℕ
 mostText = mostOf titleTemplate + 256 * mostWord + mostEnd
 
 all-few : mostText ≤ 262144
-unfolding mostFrom ascii kindTemplate dataTemplate coverTemplate unknownTemplate rangeTemplate causeTemplate effectTemplate stopTemplate setTemplate
+unfolding mostFrom ascii dataTemplate coverTemplate unknownTemplate rangeTemplate causeTemplate effectTemplate stopTemplate setTemplate
     note.mirrorTemplate coverMovesTemplate placeTemplate outcomeTemplate pairTemplate titleTemplate settingsTemplate countsTemplate mirrorTemplate
     irTemplate ccdTemplate lampsTemplate
 all-few = leb-true mostText 262144 refl

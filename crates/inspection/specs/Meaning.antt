@@ -11,14 +11,7 @@ use Rattle.words.specs.Codec.{findingNumber}
 use Rattle.head.specs.Limits.{stepTicks}
 use Rattle.layout.specs.Numbers.{ascii}
 use Rattle.layout.specs.Template.{layout}
-
--- The kinds in the order of their numbers; the last is that of an identifier that no kind has.
-unfoldable pub kindTemplate : List ℕ
-kindTemplate =
-    ascii "{NOP        |START      |HK         |STOP       |IR DETECTOR|IR WIN MODE|VDETCOM M  |VDETCOM L  "
-    ++ ascii "|VDETADJ M  |VDETADJ L  |IR DELAY   |IR EXPO    |WIN X1     |WIN Y1     |WIN X2     |WIN Y2     "
-    ++ ascii "|CCD DELAY  |CCD EXPO   |CCD LAMP   |IR LAMP    |SHUTTER    |ANNEALING  |SIN M      |SIN L      "
-    ++ ascii "|COS M      |COS L      |SWITCH     |COVER      |unknown    }  "
+use Rattle.names.specs.Kind.{kindName}
 
 -- Delays and exposures are in steps of 0.02 s, which are 2 ticks.
 unfoldable pub isTime : ℕ → Bool
@@ -90,4 +83,4 @@ meaningText w =
     (cond (eqb (findingNumber w) 24) (rangeText w) (dataText (kindOf (identifier w)) (bitsOf w)))
 
 unfoldable pub kindText : ℕ → List ℕ
-kindText w = layout kindTemplate (kindOf (identifier w) ∷ []) []
+kindText w = kindName (kindOf (identifier w))

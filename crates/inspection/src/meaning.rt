@@ -145,15 +145,5 @@ pub(crate) fn put_meaning(out: &mut [u8], at: usize, word: u16) -> usize
 pub(crate) fn put_kind(out: &mut [u8], at: usize, word: u16) -> usize
     ensures { λ r. ⌜ Written (now (out .entry)) at (kindText word) r (now (out .exit)) ⌝ }
 {
-    let values = [kind_of(word) as u64];
-    put_template(
-        out,
-        at,
-        b"{NOP        |START      |HK         |STOP       |IR DETECTOR|IR WIN MODE|VDETCOM M  |VDETCOM L  \
-        |VDETADJ M  |VDETADJ L  |IR DELAY   |IR EXPO    |WIN X1     |WIN Y1     |WIN X2     |WIN Y2     \
-        |CCD DELAY  |CCD EXPO   |CCD LAMP   |IR LAMP    |SHUTTER    |ANNEALING  |SIN M      |SIN L      \
-        |COS M      |COS L      |SWITCH     |COVER      |unknown    }  ",
-        &values,
-        &[],
-    )
+    names::kind::put_kind(out, at, kind_of(word))
 }

@@ -1,8 +1,6 @@
 -- `inspection::meaning::put_kind` meets its contract.
 -- Assumes nothing.
-use Rattle.inspection.specs.Meaning.{kindTemplate}
 use Rattle.inspection.proofs.Meanings.{written-kind}
-use Rattle.layout.specs.Numbers.{ascii}
 use borrow.Author.Needs.{needs}
 use Rattle.inspection.proofs.meaning.put_kind.Statement.{statement}
 use Rattle.inspection.proofs.meaning.put_kind.Tie as tie
@@ -10,37 +8,14 @@ use Rattle.inspection.proofs.meaning.put_kind.Tie as tie
 kind-of-requires : tie.Need-kind-of-requires
 kind-of-requires c κs = search needs
 
-cast-t8 : tie.Need-cast-t8
-cast-t8 c = search needs
-
-slice-aggregate-put-template : tie.Need-slice-aggregate-put-template
-slice-aggregate-put-template c = search needs
-
-slice-aggregate-put-template-2 : tie.Need-slice-aggregate-put-template-2
-slice-aggregate-put-template-2 c = search needs
-
-slice-aggregate-put-template-3 : tie.Need-slice-aggregate-put-template-3
-slice-aggregate-put-template-3 c = search needs
-
-put-template-requires : tie.Need-put-template-requires
-put-template-requires c κs = search needs
+put-kind-requires : tie.Need-put-kind-requires
+put-kind-requires c κs = search needs
 
 same-length : tie.Need-same-length
 same-length c = search needs
 
 returns : tie.Need-returns
-unfolding kindTemplate ascii
 returns c = search (needs, written-kind)
 
 pub put-kind-spec : {M : Type 1} → statement M
-put-kind-spec =
-    tie.close
-    (tie.spec
-    kind-of-requires
-    cast-t8
-    slice-aggregate-put-template
-    slice-aggregate-put-template-2
-    slice-aggregate-put-template-3
-    put-template-requires
-    same-length
-    returns)
+put-kind-spec = tie.close (tie.spec kind-of-requires put-kind-requires same-length returns)

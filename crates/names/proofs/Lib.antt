@@ -1,0 +1,4 @@
+pub mod Below
+pub mod Ranges
+pub mod Fitting
+pub mod Rows
