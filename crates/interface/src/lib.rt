@@ -19,6 +19,7 @@ use head::state::Head;
 use schedule::STATE_UNFIT;
 use schedule::translate::translate;
 use state::PLACES;
+use words::upper_byte::decode_by_byte;
 ghost use mathlib.Core.Path.{_≡_};
 ghost use lib.ListN.{length};
 ghost use Rattle.words.specs.Codec.{decodeOf, encodeOf};
@@ -116,6 +117,14 @@ pub extern "C" fn shabgozim_decode(word: u16) -> u32
     ensures { λ r. ⌜ r ≡ decodedAnswer (decodeOf word) ⌝ }
 {
     answers::decoded_number(words::decode(word))
+}
+
+// The same by the word's upper byte.
+#[no_mangle]
+pub extern "C" fn shabgozim_decode_by_byte(word: u16) -> u32
+    ensures { λ r. ⌜ r ≡ decodedAnswer (decodeOf word) ⌝ }
+{
+    answers::decoded_number(decode_by_byte(word))
 }
 
 #[no_mangle]
