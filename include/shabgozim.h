@@ -4,8 +4,8 @@
  * Build the archives and link them; nothing else is needed. The second is for
  * the functions that write or read texts (`shabgozim_listing`,
  * `shabgozim_report`, `shabgozim_refusal`, `shabgozim_read_list`,
- * `shabgozim_inspection`, `shabgozim_list_refusal`), and may be left out where
- * none of them is called:
+ * `shabgozim_inspection`, `shabgozim_list_refusal`, `shabgozim_upper_bytes`),
+ * and may be left out where none of them is called:
  *
  *     rt staticlib interface
  *     rt staticlib texts
@@ -174,6 +174,12 @@ uint32_t shabgozim_list(uint16_t *state, size_t state_length,
 uint32_t shabgozim_decode(uint16_t word);
 
 /*
+ * The same, found by the word's upper byte in a table of 256 entries. It is
+ * proved to answer as `shabgozim_decode` does for all 65,536 words.
+ */
+uint32_t shabgozim_decode_by_byte(uint16_t word);
+
+/*
  * The word of a kind and its data. Bits 24-31: 0, or 24 where there is no such
  * word. Bits 0-15: the word, 0 for 24.
  */
@@ -215,8 +221,8 @@ uint64_t shabgozim_translate(const uint16_t *state, size_t state_length,
 
 /* ------------------------------------------------------------------------
  * Texts for people: the listing of a plan, the report of its simulation, the
- * inspection of a list, and a refusal in words. They are ASCII, every line ends
- * in a newline, and no zero follows them.
+ * inspection of a list, a refusal in words, and the table of upper bytes. They
+ * are ASCII, every line ends in a newline, and no zero follows them.
  *
  * A text is made on the stack before it is handed over: `shabgozim_report` takes
  * about 80 KB of it, `shabgozim_inspection` about 270 KB.
@@ -227,7 +233,8 @@ enum {
     SHABGOZIM_LISTING = 8192,
     SHABGOZIM_REPORT = 65536,
     SHABGOZIM_REFUSAL = 1024, /* of a plan, or of a list's text */
-    SHABGOZIM_INSPECTION = 262144
+    SHABGOZIM_INSPECTION = 262144,
+    SHABGOZIM_UPPER_BYTES = 16384
 };
 
 /*
@@ -327,6 +334,18 @@ uint64_t shabgozim_inspection(const uint16_t *words, size_t words_length,
  */
 uint32_t shabgozim_list_refusal(uint8_t number, uint32_t line,
                                 uint8_t *text, size_t text_length);
+
+/*
+ * Writes the table of upper bytes, by which words are checked by eye: a line for
+ * each of the 256, with the kind of the words that begin with it and the ranges
+ * of those that are allowed.
+ *
+ * Bits 0-7 of the answer: 0; 10 where `text` is shorter than the table. Bits
+ * 32-63: the length of the table. All other bits are 0.
+ *
+ * Success writes the table into the first bytes of `text`, and no other.
+ */
+uint64_t shabgozim_upper_bytes(uint8_t *text, size_t text_length);
 
 /* ------------------------------------------------------------------------
  * Housekeeping blocks. They are due when a tick says so, and show the state

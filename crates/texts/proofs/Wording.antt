@@ -12,7 +12,7 @@ use Rattle.layout.specs.Written.{Written, Front}
 use Rattle.layout.proofs.Writing.{written-front, front-text}
 use Rattle.report.specs.Refusal.{refusalText}
 use Rattle.report.proofs.Fitting.{refusal-fits}
-use Rattle.texts.specs.Texts.{hasRoom, textAfter, isRefusal, refusalLength, refusalLeft}
+use Rattle.texts.specs.Texts.{hasRoom, textAfter, roomAnswer, isRefusal, refusalLength, refusalLeft}
 
 -- the ways through `hand_over_wording`
 module _ (made old : List ℕ) where
@@ -26,10 +26,13 @@ module _ (made old : List ℕ) where
     pub worded-small : length made < 2 ^ 32 → k < 2 ^ 32
     worded-small small = omega (arith, written-front put most .long)
 
--- words that were made at the front of an array, and are handed over
+-- a text that was made at the front of an array, and is handed over
 module _ (text : List ℕ) {m : List ℕ} {n : ℕ} {made : List ℕ} (front : Front m text n made) (old : List ℕ) where
   pub handed-length : {r : ℕ} → r ≡ cond (hasRoom (take n made) old) (length (take n made)) 0 → r ≡ cond (hasRoom text old) (length text) 0
   handed-length is = rw (front-text front) at is
+
+  pub handed-answer : {r : ℕ} → r ≡ roomAnswer (take n made) old → r ≡ roomAnswer text old
+  handed-answer is = rw (front-text front) at is
 
   pub handed-left : {new : List ℕ} → new ≡ textAfter (hasRoom (take n made) old) (take n made) old → new ≡ textAfter (hasRoom text old) text old
   handed-left is = rw (front-text front) at is

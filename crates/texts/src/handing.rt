@@ -5,6 +5,7 @@ use crate::arrays::packed;
 use crate::arrays::store;
 use head::state::Head;
 use layout::bytes::put_bytes;
+use names::table::upper_bytes;
 use report::refusal::put_refusal;
 use report::report::Reported;
 use report::report::report;
@@ -16,6 +17,7 @@ ghost use mathlib.Core.Bool.{cond};
 ghost use Prim.Native.Nat.{_<_, _^_};
 ghost use lib.ListN.{length};
 ghost use Rattle.head.specs.Row.{places, numbersOf};
+ghost use Rattle.names.specs.Table.{tableText};
 ghost use Rattle.report.specs.Refusal.{refusalText};
 ghost use Rattle.texts.specs.Texts.{hasRoom, textAfter, countedAnswer, roomAnswer, listingAnswer, listingLeft, reportAnswer, reportLeft, reportState};
 
@@ -106,4 +108,14 @@ pub(crate) fn put_wording(number: u8, place: usize, plan: &[u8], text: &mut [u8]
     let mut made = [0u8; MOST_WORDING];
     let length = put_refusal(&mut made, 0, number, place, plan);
     hand_over_wording(&made[..length], text)
+}
+
+// The table of upper bytes.
+pub(crate) fn put_table(text: &mut [u8]) -> u64
+    ensures { λ r. ⌜ r ≡ roomAnswer tableText (now (text .entry)) ⌝ }
+    ensures { λ _. ⌜ now (text .exit) ≡ textAfter (hasRoom tableText (now (text .entry))) tableText (now (text .entry)) ⌝ }
+{
+    let mut made = [0u8; names::table::LONGEST];
+    let length = upper_bytes(&mut made);
+    hand_over(&made[..length], text)
 }

@@ -1,5 +1,5 @@
-// The texts of the C interface (include/shabgozim.h): the listing and the report of a plan, a list read from text and inspected, and
-// refusals in words. They stand in an archive of their own, so that the calls of the other one are not slowed down by sharing functions with them.
+// The texts of the C interface (include/shabgozim.h): the listing and the report of a plan, a list read from text and inspected,
+// refusals in words, and the table of upper bytes. They stand in an archive of their own, so that the calls of the other one are not slowed down by sharing functions with them.
 pub mod arrays;
 pub mod handing;
 pub mod lists;
@@ -9,8 +9,9 @@ use interface::state::well_formed;
 use schedule::STATE_UNFIT;
 ghost use mathlib.Core.Path.{_≡_};
 ghost use lib.ListN.{length};
+ghost use Rattle.names.specs.Table.{tableText};
 ghost use Rattle.texts.specs.Lists.{readAnswer, wordsLeft, ticksLeft, inspectionAnswer, inspectionLeft, listRefusalLength, listRefusalLeft};
-ghost use Rattle.texts.specs.Texts.{listingAnswer, listingLeft, reportAnswer, reportLeft, reportState, refusalLength, refusalLeft};
+ghost use Rattle.texts.specs.Texts.{hasRoom, textAfter, roomAnswer, listingAnswer, listingLeft, reportAnswer, reportLeft, reportState, refusalLength, refusalLeft};
 
 // Writes the listing of a stored plan for the head in this state.
 #[no_mangle]
@@ -80,4 +81,13 @@ pub extern "C" fn shabgozim_list_refusal(number: u8, line: u32, text: &mut [u8])
         return 0;
     }
     lists::put_list_wording(number, line as usize, text)
+}
+
+// Writes the table of upper bytes.
+#[no_mangle]
+pub extern "C" fn shabgozim_upper_bytes(text: &mut [u8]) -> u64
+    ensures { λ r. ⌜ r ≡ roomAnswer tableText (now (text .entry)) ⌝ }
+    ensures { λ _. ⌜ now (text .exit) ≡ textAfter (hasRoom tableText (now (text .entry))) tableText (now (text .entry)) ⌝ }
+{
+    handing::put_table(text)
 }
