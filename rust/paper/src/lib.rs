@@ -2,11 +2,13 @@
 //! plans and the two housekeeping blocks, written from document 01 and
 //! document 02's request P1 alone; reports and refusals in words from their
 //! description and the stored reports; lists read from text and inspected from
-//! their description.
+//! their description; the second decoder from document 02's request P2, and the
+//! table of upper bytes from its description.
 //!
 //! | module | idea |
 //! |---|---|
 //! | [`words`] | the 28 kinds of command word |
+//! | [`upper_byte`] | words read by their upper byte, and the table for it |
 //! | [`state`] | the numbers a head holds and their ranges |
 //! | [`head`] | what the head makes of a word and of a tick |
 //! | [`list`](mod@list) | a list of timed words in one call |
@@ -36,6 +38,7 @@ pub mod run;
 pub mod state;
 pub mod text_list;
 pub mod translate;
+pub mod upper_byte;
 pub mod words;
 
 pub use blocks::{
@@ -52,4 +55,5 @@ pub use run::{run, Checks, Run};
 pub use state::{in_range, power_on, ErrorFlags, MirrorSet, Settings, State};
 pub use text_list::{read_list, TextList, TextRefusal};
 pub use translate::{translate, Translated, Translation};
+pub use upper_byte::{decode_by_byte, upper_bytes};
 pub use words::{decode, encode, Decoded, Kind};

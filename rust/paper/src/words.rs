@@ -189,7 +189,12 @@ impl Kind {
 
 /// Finds the kind and data of a word.
 pub fn decode(word: u16) -> Decoded {
-    match KIND_OF_IDENTIFIER[(word >> 10) as usize] {
+    judge(KIND_OF_IDENTIFIER[(word >> 10) as usize], word)
+}
+
+/// Judges a word's data by the kind of its identifier, if it has one.
+pub(crate) fn judge(kind: Option<Kind>, word: u16) -> Decoded {
+    match kind {
         None => Decoded::Unknown,
         Some(kind) if !kind.allows(word) => Decoded::OutOfRange { kind },
         Some(kind) => Decoded::Allowed {
