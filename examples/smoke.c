@@ -1,8 +1,8 @@
 /*
  * Drives the library through its C interface: a few words and ticks by hand,
  * then document 01's example plan, translated and run tick by tick on the head;
- * then its list in one call, whole and with a word lost; then texts, and the
- * list with a word lost read from text and inspected.
+ * then its list in one call, whole and with a word lost; then texts, the list
+ * with a word lost read from text and inspected, and the table of upper bytes.
  *
  *     rt staticlib interface && rt staticlib texts
  *     cc -Wall -Wextra -Werror -I include examples/smoke.c \
@@ -94,6 +94,8 @@ static void by_hand(void)
            shabgozim_in_range(state, SHABGOZIM_STATE - 1));
     printf("decode C001 %08" PRIX32 ", encode COVER 81 %08" PRIX32 "\n",
            shabgozim_decode(0xC001), shabgozim_encode(27, 81));
+    printf("decode C001 by its upper byte %08" PRIX32 "\n",
+           shabgozim_decode_by_byte(0xC001));
 }
 
 /* A word of the run, with what the head makes of it. */
@@ -256,6 +258,23 @@ static void inspect_lists(void)
     inspect_list("tick word\n0 2011\n1 A000\n1 600F\n3 E0F8\n");
 }
 
+/* The title and the first lines of the table of upper bytes; without room for
+ * all of it nothing is written. */
+static void print_upper_bytes(void)
+{
+    static uint8_t text[SHABGOZIM_UPPER_BYTES];
+    uint64_t written = shabgozim_upper_bytes(text, sizeof text);
+    size_t length = (size_t)(written >> 32);
+    size_t lines = 0;
+    for (size_t i = 0; i < length && lines < 4; i++) {
+        putchar(text[i]);
+        lines += text[i] == '\n';
+    }
+    uint64_t refused = shabgozim_upper_bytes(text, length - 1);
+    printf("table of %zu bytes; with one byte less room %u\n", length,
+           (unsigned)(refused & 0xFF));
+}
+
 int main(void)
 {
     by_hand();
@@ -264,5 +283,6 @@ int main(void)
     refuse_plan();
     print_texts();
     inspect_lists();
+    print_upper_bytes();
     return 0;
 }

@@ -16,6 +16,7 @@ extern "C" {
         outcomes_len: usize,
     ) -> u32;
     pub fn shabgozim_decode(word: u16) -> u32;
+    pub fn shabgozim_decode_by_byte(word: u16) -> u32;
     pub fn shabgozim_encode(kind: u8, data: u16) -> u32;
     pub fn shabgozim_translate(
         state: *const u16,
@@ -68,6 +69,7 @@ extern "C" {
         text_len: usize,
     ) -> u64;
     pub fn shabgozim_list_refusal(number: u8, line: u32, text: *mut u8, text_len: usize) -> u32;
+    pub fn shabgozim_upper_bytes(text: *mut u8, text_len: usize) -> u64;
     pub fn shabgozim_write_ir(
         state: *const u16,
         state_len: usize,

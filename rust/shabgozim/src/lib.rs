@@ -4,6 +4,7 @@
 //! | item | idea |
 //! |---|---|
 //! | [`decode`], [`encode`], [`kind`] | the 28 kinds of command word |
+//! | [`decode_by_byte`], [`upper_bytes`] | a word decoded by its upper byte; the table of upper bytes |
 //! | [`State`], [`place`] | a head's state, and what it makes of words and ticks |
 //! | [`State::list`], [`ListRefusal`] | a list of timed words in one call |
 //! | [`schedule`], [`translate`] | a stored plan turned into timed words |
@@ -13,7 +14,7 @@
 //! | [`raw`] | the same functions over slices, answers still packed |
 //!
 //! Every answer is the one that document 01 gives (for lists document 02's
-//! request P1), for any input; what the library proves holds of the C
+//! request P1, for upper bytes its request P2), for any input; what the library proves holds of the C
 //! functions, and this crate only unpacks.
 //!
 //! # Examples

@@ -56,6 +56,12 @@ pub fn decode(word: u16) -> u32 {
     unsafe { ffi::shabgozim_decode(word) }
 }
 
+/// The same by the word's upper byte.
+pub fn decode_by_byte(word: u16) -> u32 {
+    // SAFETY: a plain number.
+    unsafe { ffi::shabgozim_decode_by_byte(word) }
+}
+
 /// Word in bits 0 to 15, number (0 or 24) in 24 to 31.
 pub fn encode(kind: u8, data: u16) -> u32 {
     // SAFETY: plain numbers.
@@ -168,6 +174,13 @@ pub fn inspection(words: &[u16], ticks: &[u32], text: &mut [u8]) -> u64 {
 pub fn list_refusal(number: u8, line: u32, text: &mut [u8]) -> u32 {
     // SAFETY: as above, for one slice.
     unsafe { ffi::shabgozim_list_refusal(number, line, text.as_mut_ptr(), text.len()) }
+}
+
+/// Writes the table of upper bytes. Bits 0 to 7: 0, or 10 where `text` is
+/// shorter; 32 to 63: the table's length.
+pub fn upper_bytes(text: &mut [u8]) -> u64 {
+    // SAFETY: as above, for one slice.
+    unsafe { ffi::shabgozim_upper_bytes(text.as_mut_ptr(), text.len()) }
 }
 
 /// Writes the IR block: 0, 11 or 21.

@@ -1,5 +1,5 @@
 //! What the programs print: a plan's listing, the report of its simulation,
-//! and a refusal in words.
+//! a refusal in words, and the table of upper bytes.
 
 use crate::plan::PlanRefusal;
 use crate::raw;
@@ -11,6 +11,8 @@ pub const LISTING_LENGTH: usize = 8192;
 pub const REPORT_LENGTH: usize = 65536;
 /// Bytes that have room for every refusal in words.
 pub const REFUSAL_LENGTH: usize = 1024;
+/// Bytes that have room for the table of upper bytes.
+pub const UPPER_BYTES_LENGTH: usize = 16384;
 /// The most bytes that the programs read as a plan.
 pub const MOST_PLAN_BYTES: usize = 4096;
 
@@ -70,6 +72,21 @@ impl PlanRefusal {
         let length = raw::refusal(self.number, place, plan, &mut text);
         line(text, length)
     }
+}
+
+/// The table of upper bytes, by which words are checked by eye: a line for each
+/// of the 256, with the kind of the words that begin with it and the ranges of
+/// those that are allowed.
+///
+/// ```
+/// let table = shabgozim::upper_bytes();
+/// assert!(table.contains("\nE0    COS L         E000-E0FF\n"));
+/// assert!(table.contains("\n38    unknown       none\n"));
+/// ```
+pub fn upper_bytes() -> String {
+    let mut text = vec![0; UPPER_BYTES_LENGTH];
+    let answer = raw::upper_bytes(&mut text);
+    first(text, (answer >> 32) as u32)
 }
 
 /// The text of a packed answer, or the refusal.

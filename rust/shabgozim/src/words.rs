@@ -49,7 +49,26 @@ pub enum Decoded {
 
 /// Finds the kind and data of a word.
 pub fn decode(word: u16) -> Decoded {
-    let answer = raw::decode(word);
+    unpacked(raw::decode(word))
+}
+
+/// The same by the word's upper byte, in a table of 256 entries: the answer is
+/// that of [`decode`] for every word.
+///
+/// ```
+/// use shabgozim::{decode_by_byte, kind, Decoded};
+///
+/// let data = 0xF8;
+/// assert_eq!(decode_by_byte(0xE0F8), Decoded::Word { kind: kind::COS_L, data });
+/// // A word whose upper byte is E1 is one of COS L's, and its data are too large.
+/// assert_eq!(decode_by_byte(0xE1F8), Decoded::OutOfRange { kind: kind::COS_L });
+/// ```
+pub fn decode_by_byte(word: u16) -> Decoded {
+    unpacked(raw::decode_by_byte(word))
+}
+
+/// What a packed answer says.
+fn unpacked(answer: u32) -> Decoded {
     let kind = (answer >> 16) as u8;
     match answer >> 24 {
         0 => Decoded::Word {

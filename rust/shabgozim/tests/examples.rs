@@ -1,8 +1,8 @@
 //! Document 01's examples through the wrapper.
 
 use shabgozim::{
-    decode, encode, kind, place, Act, Cause, CoverMove, Decoded, ErrorFlags, Outcome, State, Task,
-    Ticked,
+    decode, decode_by_byte, encode, kind, place, Act, Cause, CoverMove, Decoded, ErrorFlags,
+    Outcome, State, Task, Ticked,
 };
 
 const TAKEN: Outcome = Outcome::Taken(Act::None);
@@ -106,6 +106,9 @@ fn words_have_kinds_and_data() {
     assert_eq!(decode(0x3800), Decoded::Unknown);
     let kind = kind::CCD_DELAY;
     assert_eq!(decode(0x1804), Decoded::OutOfRange { kind });
+    for word in [0x2010, 0x3800, 0x1804, 0xC001] {
+        assert_eq!(decode_by_byte(word), decode(word));
+    }
     assert_eq!(encode(kind, 5), Some(0x1805));
     assert_eq!(encode(kind, 4), None);
     assert_eq!(encode(kind::COUNT, 0), None);

@@ -1,8 +1,9 @@
-//! Listings, reports and refusals in words through the wrapper.
+//! Listings, reports, refusals in words and the table of upper bytes through the
+//! wrapper.
 
 use shabgozim::{
-    listing, place, raw, schedule, PlanRefusal, State, LISTING_LENGTH, MOST_PLAN_BYTES,
-    REFUSAL_LENGTH, REPORT_LENGTH,
+    listing, place, raw, schedule, upper_bytes, PlanRefusal, State, LISTING_LENGTH,
+    MOST_PLAN_BYTES, REFUSAL_LENGTH, REPORT_LENGTH,
 };
 
 /// Document 01's example.
@@ -216,4 +217,18 @@ fn a_refusal_wants_its_room() {
     let length = raw::refusal(2, 0, &[], &mut text[..words.len()]) as usize;
     assert_eq!(&text[..length], words.as_bytes());
     assert!(text[length..].iter().all(|&byte| byte == 0xAA));
+}
+
+#[test]
+fn a_table_without_room_is_not_written() {
+    let table = upper_bytes();
+    let length = table.len();
+    let mut text = vec![0xBB; length];
+    assert_eq!(
+        raw::upper_bytes(&mut text[..length - 1]),
+        10 | (length as u64) << 32
+    );
+    assert!(text.iter().all(|&byte| byte == 0xBB));
+    assert_eq!(raw::upper_bytes(&mut text), (length as u64) << 32);
+    assert_eq!(text, table.as_bytes());
 }
