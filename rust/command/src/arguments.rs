@@ -1,16 +1,16 @@
 //! What the arguments ask for.
 
-use crate::description::{Subcommand, OPTIONS, SUBCOMMANDS};
+use crate::description::{Inputs, Prints, OPTIONS, SUBCOMMANDS};
 use crate::failure::Failure;
 use crate::source::Source;
 use std::ffi::{OsStr, OsString};
 use std::os::unix::ffi::OsStrExt;
 
 pub enum Request {
-    /// A text about the program itself.
+    /// A text for which nothing is read.
     Show(fn() -> String),
     /// The texts of plans, or of a list.
-    Texts(&'static Subcommand, Vec<Source>),
+    Texts(&'static Inputs, Vec<Source>),
 }
 
 /// Reads the arguments after the program's name. Options may stand anywhere
@@ -27,7 +27,7 @@ pub fn read(arguments: impl Iterator<Item = OsString>) -> Result<Request, Failur
             return option(&argument);
         }
     }
-    texts(operands)
+    subcommand(operands)
 }
 
 /// `-` alone is a name.
@@ -46,7 +46,7 @@ fn option(argument: &OsStr) -> Result<Request, Failure> {
 }
 
 /// A subcommand and its names.
-fn texts(operands: Vec<OsString>) -> Result<Request, Failure> {
+fn subcommand(operands: Vec<OsString>) -> Result<Request, Failure> {
     let mut operands = operands.into_iter();
     let Some(name) = operands.next() else {
         return Err(Failure::usage(OsStr::new("subcommand"), "missing"));
@@ -54,12 +54,29 @@ fn texts(operands: Vec<OsString>) -> Result<Request, Failure> {
     let Some(subcommand) = SUBCOMMANDS.iter().find(|known| name == known.name) else {
         return Err(Failure::usage(&name, "unknown subcommand"));
     };
-    let mut sources: Vec<Source> = operands.map(Source::of).collect();
-    if let Some(excess) = sources.get(subcommand.most_names) {
-        return Err(Failure::usage(excess.name(), "one name too many"));
+    let sources: Vec<Source> = operands.map(Source::of).collect();
+    match &subcommand.prints {
+        Prints::Table(text) => {
+            at_most(&sources, 0)?;
+            Ok(Request::Show(*text))
+        }
+        Prints::Texts(inputs) => {
+            at_most(&sources, inputs.most_names)?;
+            Ok(Request::Texts(inputs, or_standard_input(sources)))
+        }
     }
+}
+
+fn at_most(sources: &[Source], most: usize) -> Result<(), Failure> {
+    match sources.get(most) {
+        Some(excess) => Err(Failure::usage(excess.name(), "one name too many")),
+        None => Ok(()),
+    }
+}
+
+fn or_standard_input(mut sources: Vec<Source>) -> Vec<Source> {
     if sources.is_empty() {
         sources.push(Source::StandardInput);
     }
-    Ok(Request::Texts(subcommand, sources))
+    sources
 }

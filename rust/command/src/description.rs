@@ -4,7 +4,7 @@
 use crate::failure::{DONE, FAILED, REFUSED};
 use crate::texts::{inspected, planned, Text};
 use crate::{help, man};
-use shabgozim::{listing, State, MOST_LIST_BYTES, MOST_PLAN_BYTES};
+use shabgozim::{listing, upper_bytes, State, MOST_LIST_BYTES, MOST_PLAN_BYTES};
 use std::ffi::c_int;
 
 pub const NAME: &str = "shabgozim";
@@ -15,6 +15,18 @@ pub const SUMMARY: &str =
 
 pub struct Subcommand {
     pub name: &'static str,
+    pub prints: Prints,
+    pub says: &'static str,
+}
+
+pub enum Prints {
+    /// A text for which nothing is read.
+    Table(fn() -> String),
+    /// The texts of plans, or of a list.
+    Texts(Inputs),
+}
+
+pub struct Inputs {
     /// The names in the synopsis.
     pub operands: &'static str,
     pub most_names: usize,
@@ -23,24 +35,27 @@ pub struct Subcommand {
     /// The text of an input for a head, or the refusal in words. The input has
     /// one byte more where it is too long.
     pub text: fn(&mut State, &[u8]) -> Result<Text, String>,
-    pub says: &'static str,
 }
 
 pub const SUBCOMMANDS: &[Subcommand] = &[
     Subcommand {
         name: "list",
-        operands: "[PLAN]",
-        most_names: 1,
-        most_bytes: MOST_PLAN_BYTES,
-        text: |head, plan| planned(plan, |plan| listing(head, plan)),
+        prints: Prints::Texts(Inputs {
+            operands: "[PLAN]",
+            most_names: 1,
+            most_bytes: MOST_PLAN_BYTES,
+            text: |head, plan| planned(plan, |plan| listing(head, plan)),
+        }),
         says: "Prints the words of a plan for a head at power-on, each with its tick, and the end.",
     },
     Subcommand {
         name: "report",
-        operands: "[PLAN...]",
-        most_names: usize::MAX,
-        most_bytes: MOST_PLAN_BYTES,
-        text: |head, plan| planned(plan, |plan| head.report(plan)),
+        prints: Prints::Texts(Inputs {
+            operands: "[PLAN...]",
+            most_names: usize::MAX,
+            most_bytes: MOST_PLAN_BYTES,
+            text: |head, plan| planned(plan, |plan| head.report(plan)),
+        }),
         says: "Prints what a head does with a plan. The first plan begins at power-on. Each \
                further one begins with the head as the plan before it left it, after the ticks \
                until it is idle and at rest. A plan that is refused or cannot be read is the \
@@ -48,14 +63,22 @@ pub const SUBCOMMANDS: &[Subcommand] = &[
     },
     Subcommand {
         name: "inspect",
-        operands: "[LIST]",
-        most_names: 1,
-        most_bytes: MOST_LIST_BYTES,
-        text: |_, list| inspected(list),
+        prints: Prints::Texts(Inputs {
+            operands: "[LIST]",
+            most_names: 1,
+            most_bytes: MOST_LIST_BYTES,
+            text: |_, list| inspected(list),
+        }),
         says: "Prints what each word of a list means and what a head at power-on makes of it, \
                the settings that are left, and how many findings there are: ignored words, \
                exposures while a mirror set is incomplete, and exposures begun while something \
                moves.",
+    },
+    Subcommand {
+        name: "upper-bytes",
+        prints: Prints::Table(upper_bytes),
+        says: "Prints a table to check words by eye: for each upper byte the kind of the words \
+               that begin with it, and the ranges of those that are allowed. Nothing is read.",
     },
 ];
 

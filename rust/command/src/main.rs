@@ -1,5 +1,5 @@
-//! `shabgozim`: lists plans, reports what the head does with them, and inspects
-//! lists.
+//! `shabgozim`: lists plans, reports what the head does with them, inspects lists,
+//! and prints the table of upper bytes.
 //!
 //! | module | idea |
 //! |---|---|
@@ -42,7 +42,7 @@ fn run() -> Result<c_int, Failure> {
     let descriptors = Descriptors::take()?;
     let done = match arguments::read(env::args_os().skip(1))? {
         Request::Show(text) => Texts::of(text()),
-        Request::Texts(subcommand, sources) => texts::of_all(subcommand, &sources, &descriptors),
+        Request::Texts(inputs, sources) => texts::of_all(inputs, &sources, &descriptors),
     };
     Ok(finish(done, descriptors))
 }

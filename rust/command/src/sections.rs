@@ -1,7 +1,8 @@
 //! The description in sections, as help and manual page show it.
 
 use crate::description::{
-    about, Subcommand, END_OF_OPTIONS, EXAMPLES, NAME, OPTIONS, STATUSES, SUBCOMMANDS, SUMMARY,
+    about, Prints, Subcommand, END_OF_OPTIONS, EXAMPLES, NAME, OPTIONS, STATUSES, SUBCOMMANDS,
+    SUMMARY,
 };
 
 /// A titled part of the description.
@@ -62,7 +63,10 @@ fn entries<Term: ToString>(table: &[(Term, &str)]) -> Vec<(String, String)> {
 
 impl Subcommand {
     fn entry(&self) -> (String, String) {
-        let call = format!("{} {}", self.name, self.operands);
+        let call = match &self.prints {
+            Prints::Table(_) => self.name.into(),
+            Prints::Texts(inputs) => format!("{} {}", self.name, inputs.operands),
+        };
         (call, self.says.into())
     }
 }

@@ -1,6 +1,6 @@
 //! The texts of plans, one after another, and of a list.
 
-use crate::description::Subcommand;
+use crate::description::Inputs;
 use crate::descriptors::Descriptors;
 use crate::failure::{Failure, DONE, REFUSED};
 use crate::source::Source;
@@ -37,11 +37,11 @@ impl Texts {
 
 /// The texts of all sources, for one head that begins at power-on. The first
 /// failure ends them.
-pub fn of_all(subcommand: &Subcommand, sources: &[Source], descriptors: &Descriptors) -> Texts {
+pub fn of_all(inputs: &Inputs, sources: &[Source], descriptors: &Descriptors) -> Texts {
     let mut head = State::power_on();
     let mut done = Texts::of(String::new());
     for source in sources {
-        match of_one(subcommand, source, descriptors, &mut head) {
+        match of_one(inputs, source, descriptors, &mut head) {
             Ok(text) => done.add(text),
             Err(failure) => {
                 done.failure = Some(failure);
@@ -53,13 +53,13 @@ pub fn of_all(subcommand: &Subcommand, sources: &[Source], descriptors: &Descrip
 }
 
 fn of_one(
-    subcommand: &Subcommand,
+    inputs: &Inputs,
     source: &Source,
     descriptors: &Descriptors,
     head: &mut State,
 ) -> Result<Text, Failure> {
-    let input = source.bytes(subcommand.most_bytes, descriptors)?;
-    let text = (subcommand.text)(head, &input);
+    let input = source.bytes(inputs.most_bytes, descriptors)?;
+    let text = (inputs.text)(head, &input);
     text.map_err(|refusal| Failure::refused(source.name(), &refusal))
 }
 

@@ -1,6 +1,7 @@
 //! The stored texts of the examples: `NAME.report` is that of `NAME.plan`, or of
 //! the plans that the one line of `NAME.plans` names; `NAME.inspection` that of
-//! `NAME.list`, or the refusal in words.
+//! `NAME.list`, or the refusal in words. The table of upper bytes is stored with
+//! the program `upper_bytes`.
 
 use std::fs;
 use std::path::{Path, PathBuf};
@@ -8,6 +9,10 @@ use std::process::{Command, Output};
 
 const PLANS: &str = concat!(env!("CARGO_MANIFEST_DIR"), "/../../examples/plans");
 const LISTS: &str = concat!(env!("CARGO_MANIFEST_DIR"), "/../../examples/lists");
+const TABLE: &str = concat!(
+    env!("CARGO_MANIFEST_DIR"),
+    "/../../crates/upper_bytes/stdout"
+);
 const README: &str = concat!(env!("CARGO_MANIFEST_DIR"), "/../../README.md");
 const MOST_COLUMNS: usize = 100;
 const LEAST_REPORTS: usize = 4;
@@ -51,6 +56,19 @@ fn inspections() {
     }
     let count = inspections.len();
     assert!(count >= LEAST_INSPECTIONS, "{count} inspections");
+}
+
+#[test]
+fn table_of_upper_bytes() {
+    let path = Path::new(TABLE);
+    let table = fs::read_to_string(path).expect("the table is text");
+    expect(path, run(LISTS, "upper-bytes", &[]), 0, &table, "");
+    has_no_wide_line(path, &table);
+    // A reader finds a byte's line by its first two letters.
+    let lines = table.lines().skip(1).filter(|line| !line.is_empty());
+    let bytes: Vec<&str> = lines.map(|line| &line[..2]).collect();
+    let expected: Vec<String> = (0..=0xFF).map(|byte| format!("{byte:02X}")).collect();
+    assert_eq!(bytes, expected);
 }
 
 #[test]

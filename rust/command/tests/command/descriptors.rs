@@ -1,6 +1,7 @@
 //! Standard input, output and error that are closed, full or without a reader.
 
 use crate::run::*;
+use shabgozim::upper_bytes;
 use std::fs;
 use std::io;
 use std::process::{Command, Stdio};
@@ -28,6 +29,8 @@ fn a_closed_input() {
     expect(after_another, 2, &reports(&[GOOD]), INPUT_CLOSED);
     // Where it is not read, it may be closed.
     expect(folder.shell("\"$0\" list good.plan <&-"), 0, LISTED, "");
+    let table = upper_bytes();
+    expect(folder.shell("\"$0\" upper-bytes <&-"), 0, &table, "");
     // An input that is open for writing alone cannot be read either.
     expect(folder.shell("\"$0\" list 0>&1"), 2, "", INPUT_CLOSED);
 }
@@ -40,6 +43,7 @@ fn a_closed_output() {
         "report good.plan",
         "inspect my.list",
         "inspect lost.list",
+        "upper-bytes",
         "--help",
         "--man",
         "-V",
@@ -82,6 +86,7 @@ fn a_full_output() {
         "report good.plan",
         "inspect my.list",
         "inspect lost.list",
+        "upper-bytes",
         "--help",
         "--man",
         "-V",
@@ -119,6 +124,7 @@ fn a_pipe_without_a_reader() {
         &["list", "good.plan"][..],
         &["report", "good.plan"],
         &["inspect", "lost.list"],
+        &["upper-bytes"],
         &["-h"],
     ] {
         let (reader, writer) = io::pipe().expect("a pipe can be made");

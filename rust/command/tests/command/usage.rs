@@ -5,6 +5,7 @@ use crate::run::*;
 const USAGE: &str = "usage: shabgozim list [PLAN]
        shabgozim report [PLAN...]
        shabgozim inspect [LIST]
+       shabgozim upper-bytes
        shabgozim --help | --version | --man
 ";
 
@@ -37,4 +38,7 @@ fn wrong_arguments_give_the_usage() {
     wrong(&["list", "--", "a", "--"], "--: one name too many");
     wrong(&["inspect", "a", "b"], "b: one name too many");
     wrong(&["inspect", "-", "-"], "standard input: one name too many");
+    wrong(&["upper-bytes", "a"], "a: one name too many");
+    wrong(&["upper-bytes", "-"], "standard input: one name too many");
+    wrong(&["upper_bytes"], "upper_bytes: unknown subcommand");
 }
