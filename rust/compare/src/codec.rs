@@ -9,6 +9,7 @@ const ALLOWED_WORDS: usize = 9133;
 
 enum CodecCase {
     Decode(u16),
+    DecodeByByte(u16),
     Encode(u8, u16),
 }
 
@@ -16,6 +17,7 @@ impl CodecCase {
     fn answer(&self, side: &Functions) -> u32 {
         match *self {
             CodecCase::Decode(word) => (side.decode)(word),
+            CodecCase::DecodeByByte(word) => (side.decode_by_byte)(word),
             CodecCase::Encode(kind, data) => (side.encode)(kind, data),
         }
     }
@@ -45,6 +47,7 @@ impl fmt::Display for CodecCase {
     fn fmt(&self, out: &mut fmt::Formatter) -> fmt::Result {
         match self {
             CodecCase::Decode(word) => write!(out, "decode {word:04X}"),
+            CodecCase::DecodeByByte(word) => write!(out, "decode {word:04X} by its upper byte"),
             CodecCase::Encode(kind, data) => write!(out, "encode kind {kind} data {data:04X}"),
         }
     }
@@ -53,9 +56,19 @@ impl fmt::Display for CodecCase {
 pub fn decode_all(sides: &Sides, _: &mut Random, _: u32) -> Counted {
     for word in 0..=u16::MAX {
         CodecCase::Decode(word).compare(sides)?;
-        unpacked_alike(word)?;
+        unpacked_alike(word, shabgozim::decode)?;
     }
     right_number_of_words(&sides.library)?;
+    Ok(1 << 16)
+}
+
+/// Both second decoders; what the wrapper's finds is also compared with what
+/// the paper's first one finds.
+pub fn decode_all_by_byte(sides: &Sides, _: &mut Random, _: u32) -> Counted {
+    for word in 0..=u16::MAX {
+        CodecCase::DecodeByByte(word).compare(sides)?;
+        unpacked_alike(word, shabgozim::decode_by_byte)?;
+    }
     Ok(1 << 16)
 }
 
@@ -69,7 +82,7 @@ pub fn encode_all(sides: &Sides, _: &mut Random, _: u32) -> Counted {
 }
 
 /// The wrapper's unpacked answer against the paper's own.
-fn unpacked_alike(word: u16) -> Result<(), Failure> {
+fn unpacked_alike(word: u16, decode: fn(u16) -> shabgozim::Decoded) -> Result<(), Failure> {
     use shabgozim::Decoded::{OutOfRange, Unknown, Word};
     let expected = match paper::decode(word) {
         paper::Decoded::Unknown => Unknown,
@@ -79,7 +92,7 @@ fn unpacked_alike(word: u16) -> Result<(), Failure> {
             data,
         },
     };
-    let found = shabgozim::decode(word);
+    let found = decode(word);
     let back = match found {
         Word { kind, data } => shabgozim::encode(kind, data) == Some(word),
         _ => true,

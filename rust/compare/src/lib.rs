@@ -52,4 +52,5 @@ mod text_form;
 mod text_limits;
 pub mod text_lists;
 pub mod unpacked;
+pub mod upper_bytes;
 pub mod words;

@@ -4,7 +4,7 @@ use crate::random::Random;
 use crate::reduce::Counted;
 use crate::sides::Sides;
 use crate::{blocks, codec, demand3, inspections, limits, list_limits, listed_plans, lists, plans};
-use crate::{refusals, reports, steps, text_lists, unpacked};
+use crate::{refusals, reports, steps, text_lists, unpacked, upper_bytes};
 
 pub type Compare = fn(&Sides, &mut Random, u32) -> Counted;
 
@@ -23,6 +23,7 @@ const fn part(name: &'static str, compare: Compare) -> Part {
 /// Every part, in the order in which they run.
 pub const PARTS: &[Part] = &[
     part("decode", codec::decode_all),
+    part("decode by upper byte", codec::decode_all_by_byte),
     part("encode", codec::encode_all),
     part("words from states", steps::words_from_states),
     part("every number of a state", steps::every_number),
@@ -42,6 +43,7 @@ pub const PARTS: &[Part] = &[
     part("text lists", text_lists::texts),
     part("inspections", inspections::inspections),
     part("listed plans", listed_plans::plans),
+    part("table of upper bytes", upper_bytes::table),
     part("blocks written", blocks::written),
     part("blocks read", blocks::read),
     part("block lengths", blocks::lengths),

@@ -31,6 +31,10 @@ impl Side for Library {
         raw::decode(word)
     }
 
+    fn decode_by_byte(word: u16) -> u32 {
+        raw::decode_by_byte(word)
+    }
+
     fn encode(kind: u8, data: u16) -> u32 {
         raw::encode(kind, data)
     }
@@ -61,6 +65,10 @@ impl Side for Library {
 
     fn list_refusal(number: u8, line: u32, text: &mut [u8]) -> u32 {
         raw::list_refusal(number, line, text)
+    }
+
+    fn upper_bytes(text: &mut [u8]) -> u64 {
+        raw::upper_bytes(text)
     }
 
     fn write_ir(state: &[u16], shown: Shown, readings: &[u16], block: &mut [u16]) -> u32 {

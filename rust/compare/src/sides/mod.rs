@@ -20,6 +20,7 @@ pub trait Side {
     fn tick(state: &mut [u16]) -> u32;
     fn list(state: &mut [u16], words: &[u16], ticks: &[u32], outcomes: &mut [u16]) -> u32;
     fn decode(word: u16) -> u32;
+    fn decode_by_byte(word: u16) -> u32;
     fn encode(kind: u8, data: u16) -> u32;
 
     fn translate(state: &[u16], plan: &[u8], words: &mut [u16], ticks: &mut [u32]) -> u64;
@@ -30,6 +31,8 @@ pub trait Side {
     fn read_list(text: &[u8], words: &mut [u16], ticks: &mut [u32]) -> u64;
     fn inspection(words: &[u16], ticks: &[u32], text: &mut [u8]) -> u64;
     fn list_refusal(number: u8, line: u32, text: &mut [u8]) -> u32;
+
+    fn upper_bytes(text: &mut [u8]) -> u64;
 
     fn write_ir(state: &[u16], shown: Shown, readings: &[u16], block: &mut [u16]) -> u32;
     fn write_ccd(state: &[u16], shown: Shown, readings: &[u16], block: &mut [u16]) -> u32;

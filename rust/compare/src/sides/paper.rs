@@ -38,6 +38,10 @@ impl Side for Paper {
         paper_decode(word)
     }
 
+    fn decode_by_byte(word: u16) -> u32 {
+        paper_decode_by_byte(word)
+    }
+
     fn encode(kind: u8, data: u16) -> u32 {
         paper_encode(kind, data)
     }
@@ -68,6 +72,10 @@ impl Side for Paper {
 
     fn list_refusal(number: u8, line: u32, text: &mut [u8]) -> u32 {
         texts::list_refusal(number, line, text)
+    }
+
+    fn upper_bytes(text: &mut [u8]) -> u64 {
+        texts::upper_bytes(text)
     }
 
     fn write_ir(state: &[u16], shown: Shown, readings: &[u16], block: &mut [u16]) -> u32 {
@@ -172,7 +180,17 @@ fn paper_list(state: &mut [u16], words: &[u16], ticks: &[u32], outcomes: &mut [u
 #[no_mangle]
 #[inline(never)]
 fn paper_decode(word: u16) -> u32 {
-    match paper::decode(word) {
+    packed(paper::decode(word))
+}
+
+#[no_mangle]
+#[inline(never)]
+fn paper_decode_by_byte(word: u16) -> u32 {
+    packed(paper::decode_by_byte(word))
+}
+
+fn packed(decoded: Decoded) -> u32 {
+    match decoded {
         Decoded::Allowed { kind, data } => u32::from(kind.index()) << 16 | u32::from(data),
         Decoded::Unknown => UNKNOWN,
         Decoded::OutOfRange { kind } => OUT_OF_RANGE | u32::from(kind.index()) << 16,

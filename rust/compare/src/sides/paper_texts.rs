@@ -86,6 +86,18 @@ pub fn list_refusal(number: u8, line: u32, text: &mut [u8]) -> u32 {
     store_line(refusal.in_words(), text)
 }
 
+pub fn upper_bytes(text: &mut [u8]) -> u64 {
+    let table = paper::upper_bytes();
+    let length = (table.len() as u64) << 32;
+    match text.len() < table.len() {
+        true => TOO_SHORT | length,
+        false => {
+            store(&table, text);
+            length
+        }
+    }
+}
+
 /// Writes a line and its newline; gives their length, or 0 where there is no
 /// line or no room for it.
 fn store_line(line: String, text: &mut [u8]) -> u32 {

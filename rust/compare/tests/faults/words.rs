@@ -13,6 +13,37 @@ pub const FAULTS: &[Fault] = &[
         is_reduced: |text| text == "decode 1805\nanswer: library 0x100005, paper 0x18100000",
     },
     Fault {
+        name: "one byte is taken for the next one's kind",
+        put: |sides| sides.paper.decode_by_byte = byte_1c_is_a_delay,
+        part: "decode by upper byte",
+        is_reduced: |text| {
+            text == "decode 1C00 by its upper byte\nanswer: library 0x17000000, paper 0x100000"
+        },
+    },
+    Fault {
+        name: "an unknown identifier is taken for NOP",
+        put: |sides| sides.paper.decode_by_byte = byte_04_is_nop,
+        part: "decode by upper byte",
+        is_reduced: |text| {
+            text == "decode 0400 by its upper byte\nanswer: library 0x17000000, paper 0x0"
+        },
+    },
+    Fault {
+        name: "a byte's last word is left out of the table",
+        put: |sides| sides.paper.upper_bytes = table_ends_delay_early,
+        part: "table of upper bytes",
+        is_reduced: |text| {
+            text.starts_with("table of upper bytes, 16384 places\ntext[")
+                && text.ends_with("]: library 0x46, paper 0x45")
+        },
+    },
+    Fault {
+        name: "the table is written where there is no room for it",
+        put: |sides| sides.paper.upper_bytes = table_in_short_text,
+        part: "table of upper bytes",
+        is_reduced: |text| text.contains(" places\ntext[0]: library 0xBB, paper 0x62"),
+    },
+    Fault {
         name: "one word is not encoded",
         put: |sides| sides.paper.encode = encode_refuses_81_steps,
         part: "encode",
@@ -63,6 +94,38 @@ fn decode_refuses_1805(word: u16) -> u32 {
         0x1805 => OUT_OF_RANGE << 24 | u32::from(kind::CCD_DELAY) << 16,
         _ => Paper::decode(word),
     }
+}
+
+/// CCD DELAY's bytes are 18 to 1B.
+fn byte_1c_is_a_delay(word: u16) -> u32 {
+    match word >> 8 {
+        0x1C => u32::from(kind::CCD_DELAY) << 16 | u32::from(word & 0x3FF),
+        _ => Paper::decode_by_byte(word),
+    }
+}
+
+fn byte_04_is_nop(word: u16) -> u32 {
+    match word {
+        0x0400 => u32::from(kind::NOP) << 16,
+        _ => Paper::decode_by_byte(word),
+    }
+}
+
+fn table_ends_delay_early(text: &mut [u8]) -> u64 {
+    let answer = Paper::upper_bytes(text);
+    let range = b"F300-F3FF";
+    if let Some(at) = text.windows(range.len()).position(|part| part == range) {
+        text[at + range.len() - 1] = b'E';
+    }
+    answer
+}
+
+fn table_in_short_text(text: &mut [u8]) -> u64 {
+    let answer = Paper::upper_bytes(text);
+    if let (10, Some(first)) = (answer as u8, text.first_mut()) {
+        *first = b'b';
+    }
+    answer
 }
 
 fn encode_refuses_81_steps(kind: u8, data: u16) -> u32 {
