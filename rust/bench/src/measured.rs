@@ -1,8 +1,8 @@
 //! The workloads, each ready to run on either side.
 
 use crate::plain_list::plain_list;
-use crate::workloads::{GivenWords, Lists, MixedRun, ReadBlocks, Ticks};
-use crate::workloads::{Translations, Workload, WrittenBlocks};
+use crate::workloads::{DecodedWords, Decoder, GivenWords, Lists, MixedRun, ReadBlocks};
+use crate::workloads::{Ticks, Translations, Workload, WrittenBlocks};
 use compare::blocks::Block;
 use compare::sides::{Library, Paper, Side};
 use shabgozim::MOST_WORDS;
@@ -107,6 +107,12 @@ impl Prepared {
 
 /// Everything that is measured.
 pub const ROWS: &[Row] = &[
+    Row::new("decode", &["decode"], || {
+        Prepared::of(DecodedWords::new(Decoder::ByIdentifier))
+    }),
+    Row::new("decode by upper byte", &["decode_by_byte"], || {
+        Prepared::of(DecodedWords::new(Decoder::ByUpperByte))
+    }),
     Row::new("word", &["word"], || Prepared::of(GivenWords::new())),
     Row::new("tick", &["tick"], || Prepared::of(Ticks::new())),
     Row::new("words and ticks mixed", &["word", "tick"], || {

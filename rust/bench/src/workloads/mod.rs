@@ -4,11 +4,13 @@ mod blocks;
 mod head;
 mod lists;
 mod plans;
+mod words;
 
 pub use blocks::{ReadBlocks, WrittenBlocks};
 pub use head::{GivenWords, MixedRun, Ticks};
 pub use lists::Lists;
 pub use plans::Translations;
+pub use words::{DecodedWords, Decoder};
 
 use compare::random::Random;
 use compare::sides::Side;
