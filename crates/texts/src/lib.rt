@@ -1,5 +1,6 @@
-// The texts of the C interface (include/shabgozim.h): the listing and the report of a plan, a list read from text and inspected,
-// refusals in words, and the table of upper bytes. They stand in an archive of their own, so that the calls of the other one are not slowed down by sharing functions with them.
+// The texts of the C interface (include/shabgozim.h): the listing and the report of a plan, a list read from text and inspected, refusals in
+// words, and the table of upper bytes. They stand in an archive of their own, so that the calls of the other one are not slowed down by
+// sharing functions with them.
 pub mod arrays;
 pub mod handing;
 pub mod lists;
