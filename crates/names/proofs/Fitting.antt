@@ -1,7 +1,7 @@
 -- The table has room in 16,384 bytes. In a byte's line a bound stands at few lower bytes only: the first and the last, those with the least and
 -- the greatest data of the kind, and of COVER those with no steps and with the most.
 -- Assumes nothing.
-use mathlib.Core.Path.{_≡_, refl, sym, _∙_}
+use mathlib.Core.Path.{_≡_, refl, sym, ap, _∙_}
 use mathlib.Core.Bool.{Bool, true, false, cond, not, _&&_, _||_}
 use mathlib.Core.List.{List, [], _∷_, _++_}
 use Prim.Native.Nat.{ℕ, zero, suc, _+_, _-_, _*_, _/_, _%_, _^_, _≤_, _<_}
@@ -10,11 +10,12 @@ use native.Mathlib.Omega.{arith}
 use native.Mathlib.Decide.{ℕ-discrete}
 use borrow.Author.Tests.{eq-eqb, ne-eqb, eqb-true, lt-ltb, ltb-true, ltb-false, leb-true, leb-false, not-true}
 use lib.Dec.{leb, ltb, eqb, lit<}
-use lib.ListN.{length, take, getD, length-append}
+use lib.ListN.{length, getD, length-append}
 use Rattle.words.specs.Kinds.{least, greatest, kindOf, allowed, identifier, bitsOf, cover, mostSteps, kinds}
 use Rattle.words.specs.Codec.{findingNumber}
 use Rattle.words.specs.UpperByte.{kindOfByte}
 use Rattle.words.proofs.Allowed.{allowed-none}
+use Rattle.words.proofs.UpperByte.{kind-by-byte}
 use Rattle.words.proofs.Tests.{and-left, and-right, or-left, or-right}
 use Rattle.layout.specs.Numbers.{bit, ascii, hexOf}
 use Rattle.layout.specs.Template.{layout}
@@ -77,8 +78,7 @@ found-allowed k d = go (ltb k 28) refl (allowed k d) refl
 
 module _ (b l : ℕ) (few : l < 256) where
   same-kind : kindOf (identifier (wordAt b l)) ≡ kindOfByte b
-  unfolding kindOfByte
-  same-kind = let e : (b * 256 + l) / 1024 ≡ b * 256 / 1024 = omega arith in rw e
+  same-kind = let e : b ≡ wordAt b l / 256 = omega arith in sym (kind-by-byte (wordAt b l) (ap kindOfByte e))
 
   same-bits : bitsOf (wordAt b l) ≡ base b + l
   same-bits = omega arith
