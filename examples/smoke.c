@@ -175,10 +175,10 @@ static void run_lists(void)
 {
     static const uint16_t whole[] = {0x2011, 0xA000, 0x600F,
                                      0xE0F8, 0x8000, 0x4000};
-    static const uint32_t whole_ticks[] = {0, 1, 2, 3, 33, 191};
+    static const uint32_t whole_ticks[] = {0, 1, 2, 3, 69, 227};
     static const uint16_t lost[] = {0x2011, 0xA000, 0x600F, 0x8000, 0x4000};
-    static const uint32_t lost_ticks[] = {0, 1, 2, 33, 191};
-    static const uint32_t equal_ticks[] = {0, 1, 1, 33, 191};
+    static const uint32_t lost_ticks[] = {0, 1, 2, 69, 227};
+    static const uint32_t equal_ticks[] = {0, 1, 1, 69, 227};
     give_list(whole, whole_ticks, 6);
     give_list(lost, lost_ticks, 5);
     give_list(lost, equal_ticks, 5);
@@ -253,8 +253,8 @@ static void inspect_list(const char *list)
 /* The example's list without its fourth mirror word, and with a tick twice. */
 static void inspect_lists(void)
 {
-    inspect_list("tick word\n0 2011\n1 A000\n2 600F\n33 8000\n191 4000\n"
-                 "end 194\n");
+    inspect_list("tick word\n0 2011\n1 A000\n2 600F\n69 8000\n227 4000\n"
+                 "end 230\n");
     inspect_list("tick word\n0 2011\n1 A000\n1 600F\n3 E0F8\n");
 }
 

@@ -76,7 +76,7 @@ enum {
     SHABGOZIM_VIS_WORD = 26,
     SHABGOZIM_TASK = 27,          /* 0 none, 1 acquisition, 2 housekeeping */
     SHABGOZIM_BUSY = 28,          /* ticks left: 0 with no task, 1-4238, 1-3 */
-    SHABGOZIM_MIRROR_MOTION = 29, /* ticks left: 0-30 */
+    SHABGOZIM_MIRROR_MOTION = 29, /* ticks left: 0-66 */
     SHABGOZIM_COVER_MOTION = 30,  /* ticks left: 0-2025 */
     SHABGOZIM_SET_WORDS = 31,     /* words of the begun mirror set: 0-3 */
     SHABGOZIM_SET_SIN_M = 32,     /* data of its words; 0 where not received */

@@ -13,13 +13,13 @@ abbrev pub wholeWords : List ℕ
 wholeWords = 0x2011 ∷ 0xA000 ∷ 0x600F ∷ 0xE0F8 ∷ 0x8000 ∷ 0x4000 ∷ []
 
 abbrev pub wholeTicks : List ℕ
-wholeTicks = 0 ∷ 1 ∷ 2 ∷ 3 ∷ 33 ∷ 191 ∷ []
+wholeTicks = 0 ∷ 1 ∷ 2 ∷ 3 ∷ 69 ∷ 227 ∷ []
 
 abbrev pub lostWords : List ℕ
 lostWords = 0x2011 ∷ 0xA000 ∷ 0x600F ∷ 0x8000 ∷ 0x4000 ∷ []
 
 abbrev pub lostTicks : List ℕ
-lostTicks = 0 ∷ 1 ∷ 2 ∷ 33 ∷ 191 ∷ []
+lostTicks = 0 ∷ 1 ∷ 2 ∷ 69 ∷ 227 ∷ []
 
 -- Two lists, a row for each place; where one ends before the other, a row that does not hold.
 unfoldable pub beside : List ℕ → List ℕ → List Row

@@ -116,7 +116,7 @@ plansListed =
     (translatedNumber (translateOf powerOn emptyPlan 0 0) gives 0)  -- 01 00 00 gives 0 words, end 0
     ∷ (length (scheduled emptyPlan .list) gives 0)
     ∷ (scheduled emptyPlan .end gives 0)
-    ∷ (translatedNumber (translateOf powerOn listedPlan 256 256) gives 0)  -- the listing
+    ∷ (translatedNumber (translateOf powerOn listedPlan 256 256) gives 0)  -- the listing, its ticks by request P3
     ∷ (length (scheduled listedPlan .list) gives 6)
     ∷ (tickAt 0 gives 0)
     ∷ (wordAt 0 gives 0x2011)
@@ -126,11 +126,11 @@ plansListed =
     ∷ (wordAt 2 gives 0x600F)
     ∷ (tickAt 3 gives 3)
     ∷ (wordAt 3 gives 0xE0F8)
-    ∷ (tickAt 4 gives 33)
+    ∷ (tickAt 4 gives 69)
     ∷ (wordAt 4 gives 0x8000)
-    ∷ (tickAt 5 gives 191)
+    ∷ (tickAt 5 gives 227)
     ∷ (wordAt 5 gives 0x4000)
-    ∷ (scheduled listedPlan .end gives 194)
+    ∷ (scheduled listedPlan .end gives 230)
     ∷ []
 
 -- The whole table.

@@ -5,9 +5,9 @@ use mathlib.Core.Bool.{cond}
 use lib.Dec.{eqb}
 use Rattle.head.specs.declared.state.Settings.{Settings}
 
--- COS L in turn, and SWITCH on, start 30 ticks of mirror motion.
+-- COS L in turn, and SWITCH on, start 66 ticks of mirror motion (document 02, request P3; document 01 has 30).
 abbrev pub mirrorTicks : ℕ
-mirrorTicks = 30
+mirrorTicks = 66
 
 -- COVER with n steps starts 25 n ticks of cover motion.
 abbrev pub coverStepTicks : ℕ

@@ -61,7 +61,7 @@ flagTests f =
     ∷ leb (f .visword) 1
     ∷ []
 
--- Mirror motion is at most 30, cover motion at most 2025.
+-- Mirror motion is at most `mirrorTicks`, cover motion at most 2025.
 unfoldable pub motionTests : Motion → List Bool
 motionTests m = leb (m .mirror) mirrorTicks ∷ leb (m .cover) (coverStepTicks * mostSteps) ∷ []
 

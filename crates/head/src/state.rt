@@ -138,7 +138,7 @@ impl Head {
 
 // The numbers of ticks that time the head. A tick is 10 ms.
 impl Head {
-    pub const MIRROR_TICKS: u16 = 30;
+    pub const MIRROR_TICKS: u16 = 66;
 
     pub const COVER_STEP_TICKS: u16 = 25;
 

@@ -1,4 +1,4 @@
--- Document 01, "Examples": the text of its listing, whole.
+-- Document 01, "Examples": the text of its listing, whole, with the ticks of request P3.
 -- Assumes nothing.
 use Prim.Native.Nat.{ℕ}
 use mathlib.Core.Path.{_≡_, refl}
@@ -24,7 +24,7 @@ use Rattle.text.specs.Listing.{listingOf, planText, listedBy, listedOf, 
 abbrev pub example : List ℕ
 example = 0x01 ∷ 0x00 ∷ 0x0A ∷ 0x05 ∷ 0x0C ∷ 0xFF ∷ 0x00 ∷ 0x0F ∷ 0xF8 ∷ 0x01 ∷ 0x0F ∷ 0x01 ∷ 0x10 ∷ []
 
-pub example-listed : printedFor example ≡ ascii "tick word\n0 2011\n1 A000\n2 600F\n3 E0F8\n33 8000\n191 4000\nend 194\n"
+pub example-listed : printedFor example ≡ ascii "tick word\n0 2011\n1 A000\n2 600F\n3 E0F8\n69 8000\n227 4000\nend 230\n"
 unfolding printedFor answerText listedOf listedBy planText listingOf headLine headText wordLines wordLine timedText endLine endText ascii decimalOf decimalWithin hexOf hexDigit
     translateOf answerOfPlan fit scheduleOf scheduleFrom readied spanOf sent ready busyTicks isBusy atRest isTaken delayOf delayWithin
     planOf headerFault ordersFrom faultAt orderAt fieldAt countOf widthOf known orderLength fieldsFit within related

@@ -7,7 +7,7 @@ use crate::text_case::{Reader, TextCase};
 use shabgozim::{MOST_LIST_BYTES, MOST_WORDS};
 
 /// The listing of document 01's example.
-const EXAMPLE: &str = "tick word\n0 2011\n1 A000\n2 600F\n3 E0F8\n33 8000\n191 4000\nend 194\n";
+const EXAMPLE: &str = "tick word\n0 2011\n1 A000\n2 600F\n3 E0F8\n69 8000\n227 4000\nend 230\n";
 
 pub fn texts(reader: &mut Reader, random: &mut Random) -> Counted {
     let mut count = every_byte(reader)?;

@@ -1,9 +1,9 @@
 //! The VIRTIS-M command words, the PEM-M head, lists of timed words, stored
 //! plans and the two housekeeping blocks, written from document 01 and
-//! document 02's request P1 alone; reports and refusals in words from their
-//! description and the stored reports; lists read from text and inspected from
-//! their description; the second decoder from document 02's request P2, and the
-//! table of upper bytes from its description.
+//! document 02's requests P1 and P3 alone; reports and refusals in words from
+//! their description and the stored reports; lists read from text and inspected
+//! from their description; the second decoder from document 02's request P2, and
+//! the table of upper bytes from its description.
 //!
 //! | module | idea |
 //! |---|---|

@@ -9,8 +9,8 @@ pub const LEAST_CCD_DELAY: u16 = 5;
 pub const MOST_ACQUISITION_TICKS: u16 = 4238;
 /// How long a housekeeping request keeps the head busy.
 pub const HK_TICKS: u16 = 3;
-/// How long the mirror moves.
-pub const MIRROR_TICKS: u16 = 30;
+/// How long the mirror moves (request P3; document 01 has 30).
+pub const MIRROR_TICKS: u16 = 66;
 /// How long the cover moves for one step.
 pub const COVER_STEP_TICKS: u16 = 25;
 /// How long the cover moves for the most steps.

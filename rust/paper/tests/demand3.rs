@@ -118,8 +118,8 @@ fn cover_words_wait_for_the_cover() {
     ];
     let Buffers { words, ticks, done } = translated(&power_on(), &plan_of(&orders));
     assert_eq!(words[..4], [0x1202, 0x4000, 0x1000, 0x1201]);
-    assert_eq!(ticks, [0, 1, 50, 51, 52, 53, 54, 55, 85]);
-    assert_eq!(done.end, 85 + 158);
+    assert_eq!(ticks, [0, 1, 50, 51, 52, 53, 54, 55, 121]);
+    assert_eq!(done.end, 121 + 158);
 }
 
 #[test]

@@ -132,17 +132,17 @@ fn example_plan() {
     let mut words = [0xAAAA; 8];
     let mut ticks = [77; 8];
     let done = translate(&power_on(), &PLAN, &mut words, &mut ticks);
-    assert_eq!(done, Ok(Translation { count: 6, end: 194 }));
+    assert_eq!(done, Ok(Translation { count: 6, end: 230 }));
     let expected = [
         0x2011, 0xA000, 0x600F, 0xE0F8, 0x8000, 0x4000, 0xAAAA, 0xAAAA,
     ];
     assert_eq!(words, expected);
-    assert_eq!(ticks, [0, 1, 2, 3, 33, 191, 77, 77]);
+    assert_eq!(ticks, [0, 1, 2, 3, 69, 227, 77, 77]);
 }
 
 #[test]
 fn example_listing() {
-    let expected = "tick word\n0 2011\n1 A000\n2 600F\n3 E0F8\n33 8000\n191 4000\nend 194\n";
+    let expected = "tick word\n0 2011\n1 A000\n2 600F\n3 E0F8\n69 8000\n227 4000\nend 230\n";
     assert_eq!(listing(&PLAN), expected);
 }
 

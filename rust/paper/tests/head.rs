@@ -99,7 +99,7 @@ fn limits_of_single_numbers() {
         (24, 0, 1),
         (25, 0, 1),
         (26, 0, 1),
-        (29, 0, 30),
+        (29, 0, 66),
         (30, 0, 2025),
     ];
     for (index, least, most) in LIMITS {
@@ -291,7 +291,7 @@ fn the_pair_changes_at_the_fourth_word() {
     assert_eq!(word(&mut head, 0xE0EF), 0);
     assert_eq!(head.settings.sine, 0x1ABC);
     assert_eq!(head.settings.cosine, 0xDEF);
-    assert_eq!(head.mirror_motion, 30);
+    assert_eq!(head.mirror_motion, 66);
     assert_eq!(head.mirror_set, MirrorSet::default());
 }
 
@@ -359,12 +359,12 @@ fn mirror_words_out_of_range_drop_the_set() {
 fn switching_the_motor() {
     let mut head = power_on();
     assert_eq!(word(&mut head, 0x5000), 0);
-    assert_eq!((head.settings.switch, head.mirror_motion), (0, 30));
+    assert_eq!((head.settings.switch, head.mirror_motion), (0, 66));
     tick(&mut head);
     assert_eq!(word(&mut head, 0x5001), 0);
-    assert_eq!((head.settings.switch, head.mirror_motion), (1, 29));
+    assert_eq!((head.settings.switch, head.mirror_motion), (1, 65));
     assert_eq!(word(&mut head, 0x5000), 0);
-    assert_eq!((head.settings.switch, head.mirror_motion), (0, 30));
+    assert_eq!((head.settings.switch, head.mirror_motion), (0, 66));
 }
 
 #[test]

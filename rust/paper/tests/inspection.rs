@@ -72,7 +72,7 @@ fn an_exposure_counts_for_each_finding() {
             "   5           3  8000  taken       START        \
              exposure: sine    +0, cosine 4095, length  1.58 s",
             "                                    INCOMPLETE MIRROR SET; received: SIN M",
-            "                                    THE MIRROR MOVES for 27 ticks more, 0.27 s",
+            "                                    THE MIRROR MOVES for 63 ticks more, 0.63 s",
             "                                    THE COVER MOVES for 23 ticks more,  0.23 s",
         ]
     );

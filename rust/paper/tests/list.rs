@@ -4,6 +4,7 @@ mod common;
 
 use common::{random_state, Random};
 use paper::list::pass;
+use paper::state::{MIRROR_TICKS, MOST_COVER_TICKS};
 use paper::{in_range, list, power_on, tick, translate, word, MirrorSet, State};
 
 const NO_OUTCOME: u16 = 0xAAAA;
@@ -35,7 +36,7 @@ fn neighbouring(count: u32) -> Vec<u32> {
 
 fn moving_head() -> State {
     let mut head = power_on();
-    (head.mirror_motion, head.cover_motion) = (30, 2025);
+    (head.mirror_motion, head.cover_motion) = (MIRROR_TICKS, MOST_COVER_TICKS);
     head
 }
 
@@ -60,7 +61,10 @@ fn the_first_word_goes_at_once_whatever_its_tick() {
     for first in [0, 1, 29, 70_000, u32::MAX - 1] {
         let mut head = moving_head();
         assert_eq!(done(&mut head, &[0, 0], &[first, first + 1]), [0, 0]);
-        assert_eq!((head.mirror_motion, head.cover_motion), (28, 2023));
+        assert_eq!(
+            (head.mirror_motion, head.cover_motion),
+            (MIRROR_TICKS - 2, MOST_COVER_TICKS - 2)
+        );
     }
     let mut head = moving_head();
     assert_eq!(done(&mut head, &[0x1001], &[u32::MAX]), [22]);
@@ -120,7 +124,7 @@ fn document_01s_plan_as_a_list() {
 fn a_lost_fourth_mirror_word_raises_no_flag() {
     let mut head = power_on();
     let words = [0x2011, 0xA000, 0x600F, 0x8000];
-    assert_eq!(done(&mut head, &words, &[0, 1, 2, 33]), [0, 0, 0, 1]);
+    assert_eq!(done(&mut head, &words, &[0, 1, 2, 69]), [0, 0, 0, 1]);
     assert_eq!(head.settings, power_on().settings);
     let begun = MirrorSet {
         received: 3,
@@ -172,7 +176,7 @@ fn many_ticks_pass_as_if_singly() {
         let given = random_state(&mut random, true);
         let mut singly = given;
         for ticks in 0..5000 {
-            if [0, 1, 30, 156, 2025, 4238, 4999].contains(&ticks) {
+            if [0, 1, 66, 156, 2025, 4238, 4999].contains(&ticks) {
                 let mut head = given;
                 pass(&mut head, ticks);
                 assert_eq!(head, singly);

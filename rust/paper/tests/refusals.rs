@@ -211,7 +211,7 @@ fn number_10_buffers() {
         exact,
         Ok(Translation {
             count: 5,
-            end: 33 + 158 + 9
+            end: 69 + 158 + 9
         })
     );
 }

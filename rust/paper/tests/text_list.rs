@@ -2,7 +2,7 @@
 
 use paper::{read_list, TextList, TextRefusal};
 
-const EXAMPLE: &str = "tick word\n0 2011\n1 A000\n2 600F\n3 E0F8\n33 8000\n191 4000\nend 194\n";
+const EXAMPLE: &str = "tick word\n0 2011\n1 A000\n2 600F\n3 E0F8\n69 8000\n227 4000\nend 230\n";
 
 fn list(timed: &[(u32, u16)]) -> TextList {
     let (ticks, words) = timed.iter().copied().unzip();
@@ -32,12 +32,12 @@ fn the_example() {
         (1, 0xA000),
         (2, 0x600F),
         (3, 0xE0F8),
-        (33, 0x8000),
-        (191, 0x4000),
+        (69, 0x8000),
+        (227, 0x4000),
     ];
     assert_eq!(read(EXAMPLE), Ok(list(&words)));
     assert_eq!(read(EXAMPLE.trim_end()), Ok(list(&words)));
-    let without_end = EXAMPLE.trim_end_matches("end 194\n");
+    let without_end = EXAMPLE.trim_end_matches("end 230\n");
     assert_eq!(read(without_end), Ok(list(&words)));
     assert_eq!(read(&EXAMPLE.replace("E0F8", "e0f8")), Ok(list(&words)));
 }

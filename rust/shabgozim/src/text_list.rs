@@ -71,7 +71,7 @@ pub fn read_list(text: &[u8]) -> Result<TextList, ListTextRefusal> {
 /// use shabgozim::{inspection, read_list};
 ///
 /// // The fourth mirror word is missing.
-/// let list = read_list(b"tick word\n0 2011\n1 A000\n2 600F\n33 8000\n").unwrap();
+/// let list = read_list(b"tick word\n0 2011\n1 A000\n2 600F\n69 8000\n").unwrap();
 /// let inspected = inspection(&list.words, &list.ticks).unwrap();
 /// assert_eq!(inspected.findings, 1);
 /// let told = "INCOMPLETE MIRROR SET; received: SIN M, SIN L, COS M";

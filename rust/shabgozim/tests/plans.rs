@@ -14,10 +14,10 @@ fn the_example_plan() {
             (1, 0xA000),
             (2, 0x600F),
             (3, 0xE0F8),
-            (33, 0x8000),
-            (191, 0x4000),
+            (69, 0x8000),
+            (227, 0x4000),
         ],
-        end: 194,
+        end: 230,
     };
     assert_eq!(schedule(&State::power_on(), &PLAN), Ok(expected));
 }

@@ -10,8 +10,8 @@ const PLAN: [u8; 13] = [
     0x01, 0x00, 0x0A, 0x05, 0x0C, 0xFF, 0x00, 0x0F, 0xF8, 0x01, 0x0F, 0x01, 0x10,
 ];
 const WORDS: [u16; 6] = [0x2011, 0xA000, 0x600F, 0xE0F8, 0x8000, 0x4000];
-const TICKS: [u32; 6] = [0, 1, 2, 3, 33, 191];
-const LISTED: &[u8] = b"tick word\n0 2011\n1 A000\n2 600F\n3 E0F8\n33 8000\n191 4000\nend 194\n";
+const TICKS: [u32; 6] = [0, 1, 2, 3, 69, 227];
+const LISTED: &[u8] = b"tick word\n0 2011\n1 A000\n2 600F\n3 E0F8\n69 8000\n227 4000\nend 230\n";
 
 fn refused(number: u8, line: u32) -> ListTextRefusal {
     ListTextRefusal { number, line }
@@ -81,7 +81,7 @@ fn a_list_wants_its_room() {
         words,
         [0x2011, 0xA000, 0x600F, 0xE0F8, 0x8000, 0x4000, 0xAAAA, 0xAAAA]
     );
-    assert_eq!(ticks, [0, 1, 2, 3, 33, 191, 77, 77]);
+    assert_eq!(ticks, [0, 1, 2, 3, 69, 227, 77, 77]);
 }
 
 #[test]

@@ -10,7 +10,7 @@ use shabgozim::{
 const PLAN: [u8; 13] = [
     0x01, 0x00, 0x0A, 0x05, 0x0C, 0xFF, 0x00, 0x0F, 0xF8, 0x01, 0x0F, 0x01, 0x10,
 ];
-const LISTED: &str = "tick word\n0 2011\n1 A000\n2 600F\n3 E0F8\n33 8000\n191 4000\nend 194\n";
+const LISTED: &str = "tick word\n0 2011\n1 A000\n2 600F\n3 E0F8\n69 8000\n227 4000\nend 230\n";
 /// The cover opens by one step.
 const COVER: [u8; 9] = [0x01, 0x00, 0x06, 0x05, 0x0E, 0x01, 0x00, 0x00, 0x01];
 /// A mirror position, and a window mode that there is not.

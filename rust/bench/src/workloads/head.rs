@@ -5,6 +5,7 @@ use compare::random::Random;
 use compare::sides::Side;
 use compare::states::{self, Numbers};
 use compare::words::Words;
+use paper::state::{MIRROR_TICKS, MOST_ACQUISITION_TICKS, MOST_COVER_TICKS};
 use shabgozim::{kind, place};
 use std::hint::black_box;
 
@@ -73,9 +74,9 @@ impl Ticks {
     pub fn new() -> Ticks {
         let mut state = states::power_on();
         state[place::TASK] = 1;
-        state[place::BUSY] = 4238;
-        state[place::MIRROR_MOTION] = 30;
-        state[place::COVER_MOTION] = 2025;
+        state[place::BUSY] = MOST_ACQUISITION_TICKS;
+        state[place::MIRROR_MOTION] = MIRROR_TICKS;
+        state[place::COVER_MOTION] = MOST_COVER_TICKS;
         state[place::IR_TIME_FLAG] = 1;
         Ticks { state }
     }

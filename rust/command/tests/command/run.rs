@@ -12,7 +12,7 @@ pub const PROGRAM: &str = env!("CARGO_BIN_EXE_shabgozim");
 
 /// Document 01's example.
 pub const GOOD: &[u8] = &[1, 0, 10, 5, 12, 0xFF, 0x00, 0x0F, 0xF8, 1, 15, 1, 16];
-pub const LISTED: &str = "tick word\n0 2011\n1 A000\n2 600F\n3 E0F8\n33 8000\n191 4000\nend 194\n";
+pub const LISTED: &str = "tick word\n0 2011\n1 A000\n2 600F\n3 E0F8\n69 8000\n227 4000\nend 230\n";
 /// The cover opens by one step.
 pub const COVER: &[u8] = &[1, 0, 6, 5, 14, 1, 0, 0, 1];
 
@@ -24,7 +24,7 @@ pub const FAULTY_SECOND: &[u8] = &[1, 0, 9, 5, 12, 0xFF, 0x00, 0x0F, 0xF8, 2, 5,
 pub const REFUSED: [&[u8]; 4] = [TOO_SHORT, WRONG_VERSION, WRONG_LENGTH, FAULTY_SECOND];
 
 /// The example's list without its fourth mirror word.
-pub const LOST: &[u8] = b"tick word\n0 2011\n1 A000\n2 600F\n33 8000\n191 4000\nend 194\n";
+pub const LOST: &[u8] = b"tick word\n0 2011\n1 A000\n2 600F\n69 8000\n227 4000\nend 230\n";
 
 static FOLDERS: AtomicUsize = AtomicUsize::new(0);
 

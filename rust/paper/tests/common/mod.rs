@@ -2,6 +2,7 @@
 //! slow translator that steps the head tick by tick.
 #![allow(dead_code)]
 
+use paper::state::{MIRROR_TICKS, MOST_ACQUISITION_TICKS, MOST_COVER_TICKS};
 use paper::{tick, word, State};
 
 /// A deterministic xorshift generator.
@@ -136,11 +137,11 @@ pub fn random_state(random: &mut Random, active: bool) -> State {
         numbers[27] = random.within(0, 2);
         numbers[28] = match numbers[27] {
             0 => 0,
-            1 => random.within(1, 4238),
+            1 => random.within(1, MOST_ACQUISITION_TICKS),
             _ => random.within(1, 3),
         };
-        numbers[29] = random.within(0, 30);
-        numbers[30] = random.within(0, 2025);
+        numbers[29] = random.within(0, MIRROR_TICKS);
+        numbers[30] = random.within(0, MOST_COVER_TICKS);
     }
     numbers[31] = random.within(0, 3);
     for (place, most) in [(1, 31), (2, 255), (3, 15)] {
