@@ -66,6 +66,21 @@ pub const FAULTS: &[Fault] = &[
         },
     },
     Fault {
+        name: "mirror motion still takes 30 ticks",
+        put: |sides| sides.paper.word = mirror_moves_for_30_ticks,
+        part: "words from states",
+        is_reduced: |text| text == "word 5000 from power-on\nstate[29]: library 0x42, paper 0x1E",
+    },
+    Fault {
+        name: "a state's mirror motion is still at most 30",
+        put: |sides| sides.paper.in_range = motion_31_is_out_of_range,
+        part: "every number of a state",
+        is_reduced: |text| {
+            text
+                == "InRange from power-on, mirror motion (29) = 31\nanswer: library 0x0, paper 0x15"
+        },
+    },
+    Fault {
         name: "a state may be one place longer",
         put: |sides| sides.paper.power_on = power_on_takes_36_places,
         part: "state lengths",
@@ -87,6 +102,7 @@ pub const FAULTS: &[Fault] = &[
     },
 ];
 
+const STATE_REFUSED: u32 = 21;
 const OUT_OF_RANGE: u32 = 24;
 
 fn decode_refuses_1805(word: u16) -> u32 {
@@ -150,6 +166,21 @@ fn detector_2_is_in_range(state: &[u16]) -> u32 {
         *detector = 1;
     }
     Paper::in_range(&state)
+}
+
+fn mirror_moves_for_30_ticks(state: &mut [u16], word: u16) -> u32 {
+    let answer = Paper::word(state, word);
+    if let Some(motion @ 66) = state.get_mut(place::MIRROR_MOTION) {
+        *motion = 30;
+    }
+    answer
+}
+
+fn motion_31_is_out_of_range(state: &[u16]) -> u32 {
+    match state.get(place::MIRROR_MOTION) {
+        Some(31..) => STATE_REFUSED,
+        _ => Paper::in_range(state),
+    }
 }
 
 fn power_on_takes_36_places(state: &mut [u16]) -> u32 {
