@@ -2,6 +2,7 @@
 
 use crate::fault::{changes, Fault};
 use compare::sides::{Paper, Side};
+use paper::state::MIRROR_TICKS;
 use paper::{State, Task, Ticked};
 use shabgozim::{kind, place, STATE_LENGTH};
 
@@ -170,7 +171,7 @@ fn detector_2_is_in_range(state: &[u16]) -> u32 {
 
 fn mirror_moves_for_30_ticks(state: &mut [u16], word: u16) -> u32 {
     let answer = Paper::word(state, word);
-    if let Some(motion @ 66) = state.get_mut(place::MIRROR_MOTION) {
+    if let Some(motion @ &mut MIRROR_TICKS) = state.get_mut(place::MIRROR_MOTION) {
         *motion = 30;
     }
     answer
