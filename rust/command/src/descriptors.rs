@@ -50,7 +50,7 @@ impl Descriptors {
     pub fn take() -> Result<Descriptors, Failure> {
         make_signals_errors();
         if !is_open(OUTPUT) {
-            return Err(Failure::system(OsStr::new(OUTPUT_NAME), &bad_descriptor()));
+            return Err(output_failure(bad_descriptor()));
         }
         let input_was_open = is_open(INPUT);
         fill(INPUT)?;
@@ -67,12 +67,21 @@ impl Descriptors {
         }
     }
 
-    /// Writes the whole text to the standard output and closes that, since some
-    /// file systems tell only then that there was no room.
-    pub fn print(self, text: &str) -> Result<(), Failure> {
+    /// Writes the whole text to the standard output.
+    pub fn print(&self, text: &str) -> Result<(), Failure> {
         let written = borrowed(OUTPUT).write_all(text.as_bytes());
-        let printed = written.and_then(|()| close_output());
-        printed.map_err(|error| Failure::system(OsStr::new(OUTPUT_NAME), &error))
+        written.map_err(output_failure)
+    }
+
+    /// Closes the standard output, since some file systems tell only then that
+    /// there was no room.
+    pub fn close(self) -> Result<(), Failure> {
+        // SAFETY: nothing else owns it, and nothing is written to it or opened
+        // after this.
+        match unsafe { close(OUTPUT) } {
+            0 => Ok(()),
+            _ => Err(output_failure(io::Error::last_os_error())),
+        }
     }
 }
 
@@ -114,12 +123,8 @@ fn borrowed(descriptor: c_int) -> ManuallyDrop<File> {
     ManuallyDrop::new(unsafe { File::from_raw_fd(descriptor) })
 }
 
-fn close_output() -> io::Result<()> {
-    // SAFETY: nothing else owns it, and nothing is written or opened after this.
-    match unsafe { close(OUTPUT) } {
-        0 => Ok(()),
-        _ => Err(io::Error::last_os_error()),
-    }
+fn output_failure(error: io::Error) -> Failure {
+    Failure::system(OsStr::new(OUTPUT_NAME), &error)
 }
 
 fn bad_descriptor() -> io::Error {

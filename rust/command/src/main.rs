@@ -47,10 +47,19 @@ fn run() -> Result<c_int, Failure> {
     Ok(finish(done, descriptors))
 }
 
-/// Prints what is complete and tells what failed; gives the exit status.
+/// Prints what is complete, tells what failed, and closes the output; gives the
+/// exit status. A program that reads the output through a pipe goes on when it is
+/// closed, so that its message comes after the one that explains it.
 fn finish(done: Texts, descriptors: Descriptors) -> c_int {
     let printed = descriptors.print(&done.text);
-    let failures = [printed.err(), done.failure].into_iter().flatten();
-    let told = failures.map(Failure::tell).max();
-    told.unwrap_or(DONE).max(done.status)
+    let written = printed.is_ok();
+    let told = tell([printed.err(), done.failure]);
+    let closed = if written { descriptors.close() } else { Ok(()) };
+    told.max(tell([closed.err()])).max(done.status)
+}
+
+/// The exit status of what failed, when it is told.
+fn tell(failures: impl IntoIterator<Item = Option<Failure>>) -> c_int {
+    let told = failures.into_iter().flatten().map(Failure::tell);
+    told.max().unwrap_or(DONE)
 }

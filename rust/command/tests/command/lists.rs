@@ -48,7 +48,8 @@ fn a_plan_is_listed_and_inspected() {
     let inspected = inspected(LISTED.as_bytes());
     let both = folder.shell("\"$0\" list good.plan | \"$0\" inspect");
     expect(both, 0, &inspected, "");
-    // Nothing is listed of a refused plan, and nothing is no list.
+    // Nothing is listed of a refused plan, and nothing is no list. The cause is
+    // told first.
     let told = refusal("bad.plan", TOO_SHORT) + &list_refusal("standard input", b"");
     let neither = folder.shell("\"$0\" list bad.plan | \"$0\" inspect");
     expect(neither, 1, "", &told);
