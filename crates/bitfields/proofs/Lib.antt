@@ -1,0 +1,9 @@
+pub mod Bits
+pub mod Apart
+pub mod Written
+pub mod Read
+pub mod Held
+pub mod Flags
+pub mod Shifts
+pub mod Rows
+pub mod ByTable
