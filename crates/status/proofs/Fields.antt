@@ -1,119 +1,82 @@
--- Laws of the status words: fields in rising order share no bit, so a word composed of values holds those values, each in its
--- field's width; and each status word says what it was composed of.
+-- Laws of the status words: the fields of each table stand apart, and each word says what it was composed of.
 -- Assumes nothing.
-use mathlib.Core.Path.{_≡_, refl, sym, ap, _∙_}
-use mathlib.Core.Bool.{Bool, true, false, _&&_}
-use mathlib.Core.List.{List, [], _∷_}
-use Prim.Native.Nat.{ℕ, _+_, _*_, _/_, _%_, _^_, _-_, _<_, _≤_}
-use native.Mathlib.Nat.{mod-eq-of-lt, mod-lt, mod-mod, add-mul, add-mul-mod-self-right, mul-assoc, zero-mul, add-comm, zero-add, add-assoc, lt-of-lt-of-le}
-use native.Mathlib.Omega.{arith}
-use lib.Arith.{digits-div, digits-lt}
-use borrow.Author.Tests.{leb-true}
-use lib.Dec.{leb, lit<}
-use lib.ListN.{length}
-use lib.Pow.{pow-pos, pow-mono, pow-add}
-use Rattle.words.proofs.Tests.{and-left, and-right}
-use Rattle.status.specs.Status.{Field, composed, valuesIn, bit, isSet, lampShutterFields, lampShutterWord, lampShutterIn, sineFields, sineWord, sineIn, irFlagFields, irFlagWord, irFlagsIn, visFlagFields, visFlagWord, visFlagsIn}
+use mathlib.Core.Path.{_≡_, refl}
+use mathlib.Core.Bool.{true}
+use Prim.Native.Nat.{ℕ, _<_}
+use native.Mathlib.Nat.{mod-eq-of-lt}
+use lib.ListN.{getD}
+use Rattle.bitfields.specs.Fields.{field, valuesIn, wordBits}
+use Rattle.bitfields.proofs.Apart.{apart, allApart}
+use Rattle.bitfields.proofs.Written.{allBelow}
+use Rattle.bitfields.proofs.Read.{value-lt}
+use Rattle.bitfields.proofs.Held.{held, composed-holds}
+pub use Rattle.bitfields.proofs.Flags.{bit-fits, bit-set}
+use Rattle.status.specs.Status.{lampShutterFields, lampShutterValues, lampShutterWord, lampShutterIn, sineFields, sineValues, sineWord, sineIn, irFlagFields, irFlagValues, irFlagWord, irFlagsIn, visFlagFields, visFlagValues, visFlagWord, visFlagsIn}
 use Rattle.status.specs.declared.LampShutter.{LampShutter}
 use Rattle.status.specs.declared.Sine.{Sine}
 use Rattle.status.specs.declared.IrFlags.{IrFlags}
 use Rattle.status.specs.declared.VisFlags.{VisFlags}
 
-pub bit-fits : (b : Bool) → bit b % 2 ≡ bit b
-bit-fits true = refl
-bit-fits false = refl
+-- the fields of each table stand apart
+pub lamp-shutter-apart : allApart lampShutterFields ≡ true
+unfolding lampShutterFields apart allApart
+lamp-shutter-apart = refl
 
-pub bit-set : (b : Bool) → isSet (bit b) ≡ b
-bit-set true = refl
-bit-set false = refl
+pub sine-apart : allApart sineFields ≡ true
+unfolding sineFields apart allApart
+sine-apart = refl
 
--- each field begins where the one before it has ended, or above
-pub rising : ℕ → List Field → Bool
-rising b [] = true
-rising b (f ∷ fs) = leb b (f .lowest) && rising (f .width + f .lowest) fs
+pub ir-flags-apart : allApart irFlagFields ≡ true
+unfolding irFlagFields apart allApart
+ir-flags-apart = refl
 
--- what the fields hold of values
-pub held : List Field → List ℕ → List ℕ
-held [] vs = []
-held (f ∷ fs) [] = []
-held (f ∷ fs) (v ∷ vs) = v % 2 ^ f .width ∷ held fs vs
+pub vis-flags-apart : allApart visFlagFields ≡ true
+unfolding visFlagFields apart allApart
+vis-flags-apart = refl
 
--- a value at bit l, and more from bit w + l on
-joined : (l w a k : ℕ) → a * 2 ^ l + k * 2 ^ (w + l) ≡ (a + k * 2 ^ w) * 2 ^ l
-joined l w a k = rw (pow-add 2 w l, ← mul-assoc k (2 ^ w) (2 ^ l)) (sym (add-mul a (k * 2 ^ w) (2 ^ l)))
+-- and within the word
+pub lamp-shutter-below : allBelow wordBits lampShutterFields ≡ true
+unfolding lampShutterFields allBelow
+lamp-shutter-below = refl
 
--- a power of two is a multiple of each lower one
-multiple : (b l : ℕ) → b ≤ l → 2 ^ l ≡ 2 ^ (l - b) * 2 ^ b
-multiple b l h = ap (λ (n : ℕ). 2 ^ n) (omega arith) ∙ pow-add 2 (l - b) b
+pub sine-below : allBelow wordBits sineFields ≡ true
+unfolding sineFields allBelow
+sine-below = refl
 
--- the fields from bit b on leave the b bits below them free
-above : (fs : List Field) (b : ℕ) (vs : List ℕ) → rising b fs ≡ true → (k : ℕ) × (composed fs vs ≡ k * 2 ^ b)
-unfolding composed rising
-above [] b vs r = (0, sym (zero-mul (2 ^ b)))
-above (f ∷ fs) b [] r = (0, sym (zero-mul (2 ^ b)))
-above (f ∷ fs) b (v ∷ vs) r =
-    let l = f .lowest in
-    let w = f .width in
-    let from = leb-true b l (and-left (leb b l) (rising (w + l) fs) r) in
-    let (k, e) = above fs (w + l) vs (and-right (leb b l) (rising (w + l) fs) r) in
-    let a = v % 2 ^ w + k * 2 ^ w in
-    (a * 2 ^ (l - b), rw (e, joined l w (v % 2 ^ w) k, multiple b l from) (sym (mul-assoc a (2 ^ (l - b)) (2 ^ b))))
+pub ir-flags-below : allBelow wordBits irFlagFields ≡ true
+unfolding irFlagFields allBelow
+ir-flags-below = refl
 
--- what stands at bit l, with less than bit l below it and more from bit w + l on
-module _ (l w v x : ℕ) (h : x < 2 ^ l) where
-  stands : (k : ℕ) → (x + (v % 2 ^ w * 2 ^ l + k * 2 ^ (w + l))) / 2 ^ l % 2 ^ w ≡ v % 2 ^ w
-  stands k =
-      let a = v % 2 ^ w in
-      rw (joined l w a k, add-comm x ((a + k * 2 ^ w) * 2 ^ l), digits-div (a + k * 2 ^ w) {m = 2 ^ l} h, add-mul-mod-self-right a k (2 ^ w))
-      (mod-mod v (2 ^ w))
-
-  below : x + v % 2 ^ w * 2 ^ l < 2 ^ (w + l)
-  below = rw (add-comm x (v % 2 ^ w * 2 ^ l), pow-add 2 w l) (digits-lt (mod-lt v (pow-pos w)) h)
-
-pub composed-holds : (fs : List Field) (b x : ℕ) (vs : List ℕ) → rising b fs ≡ true → x < 2 ^ b → length vs ≡ length fs
-    → valuesIn fs (x + composed fs vs) ≡ held fs vs
-unfolding composed valuesIn rising held
-composed-holds [] b x vs r h e = refl
-composed-holds (f ∷ fs) b x [] r h e = absurd (omega arith)
-composed-holds (f ∷ fs) b x (v ∷ vs) r h e =
-    let l = f .lowest in
-    let w = f .width in
-    let a = v % 2 ^ w * 2 ^ l in
-    let from = leb-true b l (and-left (leb b l) (rising (w + l) fs) r) in
-    let rest = and-right (leb b l) (rising (w + l) fs) r in
-    let small = lt-of-lt-of-le h (pow-mono from) in
-    let (k, m) = above fs (w + l) vs rest in
-    let here : (x + (a + composed fs vs)) / 2 ^ l % 2 ^ w ≡ v % 2 ^ w = rw m (stands l w v x small k) in
-    let there : valuesIn fs (x + (a + composed fs vs)) ≡ held fs vs = rw (← add-assoc x a (composed fs vs)) (composed-holds fs (w + l) (x + a) vs rest (below l w v x small) (omega arith)) in
-    rw (here, there)
-
--- a word composed of values holds them
-held-by : (fs : List Field) (vs : List ℕ) → rising 0 fs ≡ true → length vs ≡ length fs → valuesIn fs (composed fs vs) ≡ held fs vs
-held-by fs vs r e = rw (zero-add (composed fs vs)) at (composed-holds fs 0 0 vs r (pow-pos 0) e)
+pub vis-flags-below : allBelow wordBits visFlagFields ≡ true
+unfolding visFlagFields allBelow
+vis-flags-below = refl
 
 -- each status word says what it was composed of
 pub ir-flags-back : (f : IrFlags) → irFlagsIn (irFlagWord f) ≡ f
-unfolding irFlagsIn irFlagWord irFlagFields rising held
-ir-flags-back f = rw (held-by irFlagFields _ refl refl) (simp (bit-fits, bit-set))
+unfolding irFlagsIn irFlagWord irFlagFields held
+ir-flags-back f = rw (composed-holds irFlagFields (irFlagValues f) ir-flags-apart refl) (simp (bit-fits, bit-set))
 
 pub vis-flags-back : (f : VisFlags) → visFlagsIn (visFlagWord f) ≡ f
-unfolding visFlagsIn visFlagWord visFlagFields rising held
-vis-flags-back f = rw (held-by visFlagFields _ refl refl) (simp (bit-fits, bit-set))
+unfolding visFlagsIn visFlagWord visFlagFields held
+vis-flags-back f = rw (composed-holds visFlagFields (visFlagValues f) vis-flags-apart refl) (simp (bit-fits, bit-set))
 
 pub lamp-shutter-back : (l : LampShutter) → l .lampcurrent < 16 → l .shuttercurrent < 16 → lampShutterIn (lampShutterWord l) ≡ l
-unfolding lampShutterIn lampShutterWord lampShutterFields rising held
+unfolding lampShutterIn lampShutterWord lampShutterFields held
 lamp-shutter-back l lamp shutter =
-    rw (held-by lampShutterFields _ refl refl) (simp (bit-fits, bit-set, mod-eq-of-lt lamp, mod-eq-of-lt shutter))
+    rw (composed-holds lampShutterFields (lampShutterValues l) lamp-shutter-apart refl)
+    (simp (bit-fits, bit-set, mod-eq-of-lt lamp, mod-eq-of-lt shutter))
 
 pub sine-back : (s : Sine) → s .magnitude < 4096 → sineIn (sineWord s) ≡ s
-unfolding sineIn sineWord sineFields rising held
-sine-back s magnitude = rw (held-by sineFields _ refl refl) (simp (bit-fits, bit-set, mod-eq-of-lt magnitude))
+unfolding sineIn sineWord sineFields held
+sine-back s magnitude =
+    rw (composed-holds sineFields (sineValues s) sine-apart refl) (simp (bit-fits, bit-set, mod-eq-of-lt magnitude))
 
 -- what a field holds fits it
 pub lamp-shutter-fits : (w : ℕ) → (lampShutterIn w .lampcurrent < 16) × (lampShutterIn w .shuttercurrent < 16)
 unfolding lampShutterIn lampShutterFields valuesIn
-lamp-shutter-fits w = (mod-lt (w / 1) {m = 16} (lit< tt), mod-lt (w / 256) {m = 16} (lit< tt))
+lamp-shutter-fits w =
+    (value-lt (getD lampShutterFields 0 (field 0 0)) w, value-lt (getD lampShutterFields 2 (field 0 0)) w)
 
 pub sine-fits : (w : ℕ) → sineIn w .magnitude < 4096
 unfolding sineIn sineFields valuesIn
-sine-fits w = mod-lt (w / 1) {m = 4096} (lit< tt)
+sine-fits w = value-lt (getD sineFields 0 (field 0 0)) w

@@ -1,22 +1,18 @@
 -- Document 01, "Blocks": the status words. The tables give each field's lowest bit and width in document 01's numbering, beside
--- the names of source document 000's drawing.
+-- the names of source document 000's drawing. Bit 1 of a flag word is a field whose value is always 1; the bits of no field are 0.
 -- Assumes nothing.
-use Prim.Native.Nat.{ℕ, _+_, _*_, _/_, _%_, _^_}
-use mathlib.Core.Bool.{Bool, cond}
+use Prim.Native.Nat.{ℕ}
+use mathlib.Core.Bool.{Bool}
 use mathlib.Core.List.{List, [], _∷_}
 use lib.Dec.{eqb}
 use lib.ListN.{getD}
+use Rattle.bitfields.specs.Fields.{Field, field}
+pub use Rattle.bitfields.specs.Fields.{bit, isSet}
+unfoldable pub use Rattle.bitfields.specs.Fields.{composed, valuesIn}
 use Rattle.status.specs.declared.LampShutter.{LampShutter}
 use Rattle.status.specs.declared.Sine.{Sine}
 use Rattle.status.specs.declared.IrFlags.{IrFlags}
 use Rattle.status.specs.declared.VisFlags.{VisFlags}
-
-pub record Field : Type 0 where
-  pub lowest : ℕ
-  pub width : ℕ
-
-abbrev pub field : ℕ → ℕ → Field
-field l w = record { lowest = l; width = w }
 
 -- M_IR_LAMP_SHUTTER
 unfoldable pub lampShutterFields : List Field
@@ -61,45 +57,38 @@ visFlagFields =
     ∷ field 8 1  -- 5 M_CCD_LAMP_ST: CCD lamp
     ∷ []
 
--- The word whose fields hold these values, each in its field's width. All other bits 0.
-unfoldable pub composed : List Field → List ℕ → ℕ
-composed [] vs = 0
-composed (f ∷ fs) [] = 0
-composed (f ∷ fs) (v ∷ vs) = v % 2 ^ f .width * 2 ^ f .lowest + composed fs vs
+-- The values of the fields, in the table's order, and what such values say; the word that holds them, and what a word says.
+abbrev pub lampShutterValues : LampShutter → List ℕ
+lampShutterValues l = l .lampcurrent ∷ bit (l .lampon) ∷ l .shuttercurrent ∷ bit (l .closed) ∷ []
 
--- The values that a word holds in its fields.
-unfoldable pub valuesIn : List Field → ℕ → List ℕ
-valuesIn [] w = []
-valuesIn (f ∷ fs) w = w / 2 ^ f .lowest % 2 ^ f .width ∷ valuesIn fs w
-
--- A flag as the value of a field of one bit, and back.
-abbrev pub bit : Bool → ℕ
-bit b = cond b 1 0
-
-abbrev pub isSet : ℕ → Bool
-isSet v = eqb v 1
-
-unfoldable pub lampShutterWord : LampShutter → ℕ
-lampShutterWord l =
-    composed lampShutterFields (l .lampcurrent ∷ bit (l .lampon) ∷ l .shuttercurrent ∷ bit (l .closed) ∷ [])
-
-unfoldable pub lampShutterIn : ℕ → LampShutter
-lampShutterIn w =
-    let v : ℕ → ℕ = λ k. getD (valuesIn lampShutterFields w) k 0 in
+abbrev pub lampShutterOf : List ℕ → LampShutter
+lampShutterOf vs =
+    let v : ℕ → ℕ = λ k. getD vs k 0 in
     record { lampcurrent = v 0; lampon = isSet (v 1); shuttercurrent = v 2; closed = isSet (v 3) }
 
-unfoldable pub sineWord : Sine → ℕ
-sineWord s = composed sineFields (s .magnitude ∷ bit (s .negative) ∷ [])
+unfoldable pub lampShutterWord : LampShutter → ℕ
+lampShutterWord l = composed lampShutterFields (lampShutterValues l)
 
-unfoldable pub sineIn : ℕ → Sine
-sineIn w =
-    let v : ℕ → ℕ = λ k. getD (valuesIn sineFields w) k 0 in
+unfoldable pub lampShutterIn : ℕ → LampShutter
+lampShutterIn w = lampShutterOf (valuesIn lampShutterFields w)
+
+abbrev pub sineValues : Sine → List ℕ
+sineValues s = s .magnitude ∷ bit (s .negative) ∷ []
+
+abbrev pub sineOf : List ℕ → Sine
+sineOf vs =
+    let v : ℕ → ℕ = λ k. getD vs k 0 in
     record { magnitude = v 0; negative = isSet (v 1) }
 
-unfoldable pub irFlagWord : IrFlags → ℕ
-irFlagWord f =
-    composed irFlagFields
-    (bit (f .acquired)
+unfoldable pub sineWord : Sine → ℕ
+sineWord s = composed sineFields (sineValues s)
+
+unfoldable pub sineIn : ℕ → Sine
+sineIn w = sineOf (valuesIn sineFields w)
+
+abbrev pub irFlagValues : IrFlags → List ℕ
+irFlagValues f =
+    bit (f .acquired)
     ∷ 1
     ∷ bit (f .time)
     ∷ bit (f .word)
@@ -110,11 +99,11 @@ irFlagWord f =
     ∷ bit (f .opens)
     ∷ bit (f .notclosed)
     ∷ bit (f .notopen)
-    ∷ [])
+    ∷ []
 
-unfoldable pub irFlagsIn : ℕ → IrFlags
-irFlagsIn w =
-    let v : ℕ → Bool = λ k. isSet (getD (valuesIn irFlagFields w) k 0) in
+abbrev pub irFlagsOf : List ℕ → IrFlags
+irFlagsOf vs =
+    let v : ℕ → Bool = λ k. isSet (getD vs k 0) in
     record {
       acquired = v 0;
       time = v 2;
@@ -128,15 +117,26 @@ irFlagsIn w =
       notopen = v 10;
     }
 
+unfoldable pub irFlagWord : IrFlags → ℕ
+irFlagWord f = composed irFlagFields (irFlagValues f)
+
+unfoldable pub irFlagsIn : ℕ → IrFlags
+irFlagsIn w = irFlagsOf (valuesIn irFlagFields w)
+
+abbrev pub visFlagValues : VisFlags → List ℕ
+visFlagValues f =
+    bit (f .acquired) ∷ 1 ∷ bit (f .time) ∷ bit (f .word) ∷ bit (f .latchup) ∷ bit (f .lampon) ∷ []
+
+abbrev pub visFlagsOf : List ℕ → VisFlags
+visFlagsOf vs =
+    let v : ℕ → Bool = λ k. isSet (getD vs k 0) in
+    record { acquired = v 0; time = v 2; word = v 3; latchup = v 4; lampon = v 5 }
+
 unfoldable pub visFlagWord : VisFlags → ℕ
-visFlagWord f =
-    composed visFlagFields
-    (bit (f .acquired) ∷ 1 ∷ bit (f .time) ∷ bit (f .word) ∷ bit (f .latchup) ∷ bit (f .lampon) ∷ [])
+visFlagWord f = composed visFlagFields (visFlagValues f)
 
 unfoldable pub visFlagsIn : ℕ → VisFlags
-visFlagsIn w =
-    let v : ℕ → Bool = λ k. isSet (getD (valuesIn visFlagFields w) k 0) in
-    record { acquired = v 0; time = v 2; word = v 3; latchup = v 4; lampon = v 5 }
+visFlagsIn w = visFlagsOf (valuesIn visFlagFields w)
 
 -- Fixed bits are those of no field, all 0, and bit 1 of a flag word, always set. One of them is wrong just where the word is not that
 -- of what it says.

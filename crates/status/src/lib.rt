@@ -1,7 +1,16 @@
-// The status words of the two blocks, from meaning to bits and back. The tables of their fields stand in specs/Status.antt.
+// The status words of the two blocks, from meaning to bits and back, by the tables of their fields. `values` and `of_values` have the
+// fields' values in the table's order.
+mod tables;
+
+use crate::tables::ALWAYS_SET;
+use crate::tables::ir_flags;
+use crate::tables::lamp_shutter;
+use crate::tables::sine;
+use crate::tables::vis_flags;
+use bitfields::compose;
+use bitfields::values_in;
 ghost use mathlib.Core.Path.{_≡_};
-ghost use Prim.Native.Nat.{_+_, _*_, _≤_};
-ghost use Rattle.status.specs.Status.{bit, lampShutterWord, lampShutterIn, lampShutterRight, sineWord, sineIn, sineRight, irFlagWord, irFlagsIn, irFlagsRight, visFlagWord, visFlagsIn, visFlagsRight};
+ghost use Rattle.status.specs.Status.{lampShutterValues, lampShutterOf, lampShutterWord, lampShutterIn, lampShutterRight, sineValues, sineOf, sineWord, sineIn, sineRight, irFlagValues, irFlagsOf, irFlagWord, irFlagsIn, irFlagsRight, visFlagValues, visFlagsOf, visFlagWord, visFlagsIn, visFlagsRight};
 
 // The lamp and shutter word of the IR block.
 pub struct LampShutter {
@@ -42,40 +51,44 @@ pub struct VisFlags {
     pub lampon: bool,
 }
 
-// A bit, as a number.
-fn as_bit(b: bool) -> u16
-    ensures { λ r. ⌜ r ≡ bit b ⌝ }
-    ensures { λ r. ⌜ r ≤ 1 ⌝ }
-{
-    if b { 1 } else { 0 }
-}
-
-// Four bits of a word, the lowest first.
-fn four_bits(a: bool, b: bool, c: bool, d: bool) -> u16
-    ensures { λ r. ⌜ r ≡ bit a + 2 * bit b + 4 * bit c + 8 * bit d ⌝ }
-    ensures { λ r. ⌜ r ≤ 15 ⌝ }
-{
-    as_bit(a) + 2 * as_bit(b) + 4 * as_bit(c) + 8 * as_bit(d)
-}
-
 impl LampShutter {
+    fn values(self) -> [u16; 4]
+        ensures { λ r. ⌜ r ≡ lampShutterValues self ⌝ }
+    {
+        [
+            self.lampcurrent,
+            self.lampon as u16,
+            self.shuttercurrent,
+            self.closed as u16,
+        ]
+    }
+
+    fn of_values(values: [u16; 4]) -> LampShutter
+        ensures { λ r. ⌜ r ≡ lampShutterOf values ⌝ }
+    {
+        LampShutter {
+            lampcurrent: values[0],
+            lampon: values[1] == 1,
+            shuttercurrent: values[2],
+            closed: values[3] == 1,
+        }
+    }
+
     pub fn word(self) -> u16
         ensures { λ r. ⌜ r ≡ lampShutterWord self ⌝ }
     {
-        let lamp = self.lampcurrent % 16 + 16 * as_bit(self.lampon);
-        let shutter = self.shuttercurrent % 16 + 16 * as_bit(self.closed);
-        lamp + 256 * shutter
+        let fields = lamp_shutter();
+        let values = self.values();
+        compose(&fields, &values)
     }
 
     pub fn in_word(w: u16) -> LampShutter
         ensures { λ r. ⌜ r ≡ lampShutterIn w ⌝ }
     {
-        LampShutter {
-            lampcurrent: w % 16,
-            lampon: w / 16 % 2 == 1,
-            shuttercurrent: w / 256 % 16,
-            closed: w / 4096 % 2 == 1,
-        }
+        let fields = lamp_shutter();
+        let mut values = [0u16; 4];
+        values_in(&fields, w, &mut values);
+        LampShutter::of_values(values)
     }
 
     // Whether each fixed bit of the word is right: the word is that of what it says.
@@ -88,19 +101,36 @@ impl LampShutter {
 }
 
 impl Sine {
+    fn values(self) -> [u16; 2]
+        ensures { λ r. ⌜ r ≡ sineValues self ⌝ }
+    {
+        [self.magnitude, self.negative as u16]
+    }
+
+    fn of_values(values: [u16; 2]) -> Sine
+        ensures { λ r. ⌜ r ≡ sineOf values ⌝ }
+    {
+        Sine {
+            magnitude: values[0],
+            negative: values[1] == 1,
+        }
+    }
+
     pub fn word(self) -> u16
         ensures { λ r. ⌜ r ≡ sineWord self ⌝ }
     {
-        self.magnitude % 4096 + 4096 * as_bit(self.negative)
+        let fields = sine();
+        let values = self.values();
+        compose(&fields, &values)
     }
 
     pub fn in_word(w: u16) -> Sine
         ensures { λ r. ⌜ r ≡ sineIn w ⌝ }
     {
-        Sine {
-            magnitude: w % 4096,
-            negative: w / 4096 % 2 == 1,
-        }
+        let fields = sine();
+        let mut values = [0u16; 2];
+        values_in(&fields, w, &mut values);
+        Sine::of_values(values)
     }
 
     // Whether each fixed bit of the word is right: the word is that of what it says.
@@ -113,30 +143,56 @@ impl Sine {
 }
 
 impl IrFlags {
+    fn values(self) -> [u16; 11]
+        ensures { λ r. ⌜ r ≡ irFlagValues self ⌝ }
+    {
+        [
+            self.acquired as u16,
+            ALWAYS_SET,
+            self.time as u16,
+            self.word as u16,
+            self.scan as u16,
+            self.detector as u16,
+            self.latchup as u16,
+            self.annealing as u16,
+            self.opens as u16,
+            self.notclosed as u16,
+            self.notopen as u16,
+        ]
+    }
+
+    fn of_values(values: [u16; 11]) -> IrFlags
+        ensures { λ r. ⌜ r ≡ irFlagsOf values ⌝ }
+    {
+        IrFlags {
+            acquired: values[0] == 1,
+            time: values[2] == 1,
+            word: values[3] == 1,
+            scan: values[4] == 1,
+            detector: values[5] == 1,
+            latchup: values[6] == 1,
+            annealing: values[7] == 1,
+            opens: values[8] == 1,
+            notclosed: values[9] == 1,
+            notopen: values[10] == 1,
+        }
+    }
+
     pub fn word(self) -> u16
         ensures { λ r. ⌜ r ≡ irFlagWord self ⌝ }
     {
-        four_bits(self.acquired, true, self.time, self.word)
-            + 16 * four_bits(self.scan, self.detector, self.latchup, false)
-            + 256 * four_bits(false, self.annealing, false, false)
-            + 4096 * four_bits(self.opens, self.notclosed, self.notopen, false)
+        let fields = ir_flags();
+        let values = self.values();
+        compose(&fields, &values)
     }
 
     pub fn in_word(w: u16) -> IrFlags
         ensures { λ r. ⌜ r ≡ irFlagsIn w ⌝ }
     {
-        IrFlags {
-            acquired: w % 2 == 1,
-            time: w / 4 % 2 == 1,
-            word: w / 8 % 2 == 1,
-            scan: w / 16 % 2 == 1,
-            detector: w / 32 % 2 == 1,
-            latchup: w / 64 % 2 == 1,
-            annealing: w / 512 % 2 == 1,
-            opens: w / 4096 % 2 == 1,
-            notclosed: w / 8192 % 2 == 1,
-            notopen: w / 16384 % 2 == 1,
-        }
+        let fields = ir_flags();
+        let mut values = [0u16; 11];
+        values_in(&fields, w, &mut values);
+        IrFlags::of_values(values)
     }
 
     // Whether each fixed bit of the word is right: the word is that of what it says.
@@ -149,24 +205,46 @@ impl IrFlags {
 }
 
 impl VisFlags {
+    fn values(self) -> [u16; 6]
+        ensures { λ r. ⌜ r ≡ visFlagValues self ⌝ }
+    {
+        [
+            self.acquired as u16,
+            ALWAYS_SET,
+            self.time as u16,
+            self.word as u16,
+            self.latchup as u16,
+            self.lampon as u16,
+        ]
+    }
+
+    fn of_values(values: [u16; 6]) -> VisFlags
+        ensures { λ r. ⌜ r ≡ visFlagsOf values ⌝ }
+    {
+        VisFlags {
+            acquired: values[0] == 1,
+            time: values[2] == 1,
+            word: values[3] == 1,
+            latchup: values[4] == 1,
+            lampon: values[5] == 1,
+        }
+    }
+
     pub fn word(self) -> u16
         ensures { λ r. ⌜ r ≡ visFlagWord self ⌝ }
     {
-        four_bits(self.acquired, true, self.time, self.word)
-            + 16 * four_bits(self.latchup, false, false, false)
-            + 256 * four_bits(self.lampon, false, false, false)
+        let fields = vis_flags();
+        let values = self.values();
+        compose(&fields, &values)
     }
 
     pub fn in_word(w: u16) -> VisFlags
         ensures { λ r. ⌜ r ≡ visFlagsIn w ⌝ }
     {
-        VisFlags {
-            acquired: w % 2 == 1,
-            time: w / 4 % 2 == 1,
-            word: w / 8 % 2 == 1,
-            latchup: w / 16 % 2 == 1,
-            lampon: w / 256 % 2 == 1,
-        }
+        let fields = vis_flags();
+        let mut values = [0u16; 6];
+        values_in(&fields, w, &mut values);
+        VisFlags::of_values(values)
     }
 
     // Whether each fixed bit of the word is right: the word is that of what it says.

@@ -1,13 +1,37 @@
 -- `status::IrFlags::in_word` meets its contract.
 -- Assumes nothing.
-use native.Mathlib.Nat.{div-one}
-use Rattle.status.specs.Status.{irFlagsIn, irFlagFields, valuesIn}
+use Rattle.bitfields.proofs.ByTable.{values-by, said-by}
+use Rattle.status.specs.Status.{irFlagFields, irFlagsOf, irFlagsIn}
+use borrow.Author.Needs.{needs}
 use Rattle.status.proofs.IrFlags.in_word.Statement.{statement}
 use Rattle.status.proofs.IrFlags.in_word.Tie as tie
 
+ir-flags-requires : tie.Need-ir-flags-requires
+ir-flags-requires c κs = search needs
+
+slice-aggregate-values-in : tie.Need-slice-aggregate-values-in
+slice-aggregate-values-in c = search needs
+
+slice-aggregate-values-in-2 : tie.Need-slice-aggregate-values-in-2
+slice-aggregate-values-in-2 c = search needs
+
+values-in-requires : tie.Need-values-in-requires
+values-in-requires c κs = search needs
+
+of-values-requires : tie.Need-of-values-requires
+of-values-requires c κs = search needs
+
 returns : tie.Need-returns
-unfolding irFlagsIn irFlagFields valuesIn
-returns c = simp div-one
+unfolding irFlagFields irFlagsIn
+returns c = search (needs, values-by, said-by irFlagsOf irFlagFields)
 
 pub in-word-spec : {M : Type 1} → statement M
-in-word-spec = tie.close (tie.spec returns)
+in-word-spec =
+    tie.close
+    (tie.spec
+    ir-flags-requires
+    slice-aggregate-values-in
+    slice-aggregate-values-in-2
+    values-in-requires
+    of-values-requires
+    returns)

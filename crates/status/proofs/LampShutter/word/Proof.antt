@@ -1,50 +1,38 @@
 -- `status::LampShutter::word` meets its contract.
 -- Assumes nothing.
-use native.Mathlib.Omega.{arith}
-use Rattle.status.specs.Status.{lampShutterWord, lampShutterFields, composed}
-use Rattle.status.proofs.Fields.{bit-fits}
+use Rattle.bitfields.proofs.ByTable.{composed-by}
+use Rattle.status.specs.Status.{lampShutterWord}
+use Rattle.status.proofs.Fields.{lamp-shutter-apart, lamp-shutter-below}
 use borrow.Author.Needs.{needs}
 use Rattle.status.proofs.LampShutter.word.Statement.{statement}
 use Rattle.status.proofs.LampShutter.word.Tie as tie
 
-as-bit-requires : tie.Need-as-bit-requires
-as-bit-requires c κs = search needs
+lamp-shutter-requires : tie.Need-lamp-shutter-requires
+lamp-shutter-requires c κs = search needs
 
-mul-lamp : tie.Need-mul-lamp
-mul-lamp c = search needs
+values-requires : tie.Need-values-requires
+values-requires c κs = search needs
 
-add-lamp : tie.Need-add-lamp
-add-lamp c = search needs
+slice-aggregate-compose : tie.Need-slice-aggregate-compose
+slice-aggregate-compose c = search needs
 
-as-bit-requires-2 : tie.Need-as-bit-requires-2
-as-bit-requires-2 c κs = search needs
+slice-aggregate-compose-2 : tie.Need-slice-aggregate-compose-2
+slice-aggregate-compose-2 c = search needs
 
-mul-shutter : tie.Need-mul-shutter
-mul-shutter c = search needs
-
-add-shutter : tie.Need-add-shutter
-add-shutter c = search needs
-
-mul-result : tie.Need-mul-result
-mul-result c = search needs
-
-add-result : tie.Need-add-result
-add-result c = search needs
+compose-requires : tie.Need-compose-requires
+compose-requires c κs = search needs
 
 returns : tie.Need-returns
-unfolding lampShutterWord lampShutterFields composed
-returns c = simp bit-fits (omega arith)
+unfolding lampShutterWord
+returns c = search (needs, composed-by, lamp-shutter-apart, lamp-shutter-below)
 
 pub word-spec : {M : Type 1} → statement M
 word-spec =
     tie.close
     (tie.spec
-    as-bit-requires
-    mul-lamp
-    add-lamp
-    as-bit-requires-2
-    mul-shutter
-    add-shutter
-    mul-result
-    add-result
+    lamp-shutter-requires
+    values-requires
+    slice-aggregate-compose
+    slice-aggregate-compose-2
+    compose-requires
     returns)

@@ -1,46 +1,38 @@
 -- `status::VisFlags::word` meets its contract.
 -- Assumes nothing.
-use native.Mathlib.Omega.{arith}
-use Rattle.status.specs.Status.{visFlagWord, visFlagFields, composed}
-use Rattle.status.proofs.Fields.{bit-fits}
+use Rattle.bitfields.proofs.ByTable.{composed-by}
+use Rattle.status.specs.Status.{visFlagWord}
+use Rattle.status.proofs.Fields.{vis-flags-apart, vis-flags-below}
 use borrow.Author.Needs.{needs}
 use Rattle.status.proofs.VisFlags.word.Statement.{statement}
 use Rattle.status.proofs.VisFlags.word.Tie as tie
 
-four-bits-requires : tie.Need-four-bits-requires
-four-bits-requires c κs = search needs
+vis-flags-requires : tie.Need-vis-flags-requires
+vis-flags-requires c κs = search needs
 
-four-bits-requires-2 : tie.Need-four-bits-requires-2
-four-bits-requires-2 c κs = search needs
+values-requires : tie.Need-values-requires
+values-requires c κs = search needs
 
-mul-result : tie.Need-mul-result
-mul-result c = search needs
+slice-aggregate-compose : tie.Need-slice-aggregate-compose
+slice-aggregate-compose c = search needs
 
-add-result : tie.Need-add-result
-add-result c = search needs
+slice-aggregate-compose-2 : tie.Need-slice-aggregate-compose-2
+slice-aggregate-compose-2 c = search needs
 
-four-bits-requires-3 : tie.Need-four-bits-requires-3
-four-bits-requires-3 c κs = search needs
-
-mul-result-2 : tie.Need-mul-result-2
-mul-result-2 c = search needs
-
-add-result-2 : tie.Need-add-result-2
-add-result-2 c = search needs
+compose-requires : tie.Need-compose-requires
+compose-requires c κs = search needs
 
 returns : tie.Need-returns
-unfolding visFlagWord visFlagFields composed
-returns c = simp bit-fits (omega arith)
+unfolding visFlagWord
+returns c = search (needs, composed-by, vis-flags-apart, vis-flags-below)
 
 pub word-spec : {M : Type 1} → statement M
 word-spec =
     tie.close
     (tie.spec
-    four-bits-requires
-    four-bits-requires-2
-    mul-result
-    add-result
-    four-bits-requires-3
-    mul-result-2
-    add-result-2
+    vis-flags-requires
+    values-requires
+    slice-aggregate-compose
+    slice-aggregate-compose-2
+    compose-requires
     returns)
