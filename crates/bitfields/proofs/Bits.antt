@@ -2,7 +2,7 @@
 -- Assumes nothing.
 use mathlib.Core.Path.{_≡_, refl, sym, ap, ap₂, _∙_}
 use Prim.Native.Nat.{ℕ, zero, suc, _+_, _-_, _*_, _/_, _%_, _^_, _<_, _≤_}
-use native.Mathlib.Nat.{div-one, mod-one, mod-lt, mul-assoc, mul-mod-left, pow-suc, div-eq-of-lt, zero-mod, zero-mul, zero-add, lt-of-lt-of-le}
+use native.Mathlib.Nat.{div-one, mod-one, mod-lt, mul-assoc, mul-mod-left, div-eq-of-lt, zero-mod, zero-mul, zero-add, lt-of-lt-of-le}
 use native.Mathlib.Omega.{arith}
 use lib.Arith.{bin-ind}
 use lib.Dec.{lit<}
@@ -28,14 +28,16 @@ bit-next n b = ap (bitAt n) (omega arith) ∙ sym (bit-shr n 1 b)
 pub bit-shl : (n l b : ℕ) → bitAt (n * 2 ^ l) (l + b) ≡ bitAt n b
 bit-shl n l b = sym (bit-shr (n * 2 ^ l) l b) ∙ ap (λ (x : ℕ). bitAt x b) (shl-shr n l)
 
+-- by l bits: first by all but k, and then by k
+pub shl-split : (n l k : ℕ) → k ≤ l → n * 2 ^ l ≡ n * 2 ^ (l - k) * 2 ^ k
+shl-split n l k h =
+    ap (λ (x : ℕ). n * 2 ^ x) (omega arith) ∙ ap (λ (x : ℕ). n * x) (pow-add 2 (l - k) k) ∙ sym (mul-assoc n (2 ^ (l - k)) (2 ^ k))
+
 pub bit-below : (n l b : ℕ) → b < l → bitAt (n * 2 ^ l) b ≡ 0
 unfolding bitAt
 bit-below n l b h =
-    let k = l - suc b in
-    let even : n * 2 ^ suc k % 2 ≡ 0 = rw (pow-suc 2 k, ← mul-assoc n (2 ^ k) 2) (mul-mod-left (n * 2 ^ k) 2) in
-    let up : n * 2 ^ l ≡ n * 2 ^ suc k * 2 ^ b =
-    ap (λ (x : ℕ). n * 2 ^ x) (omega arith) ∙ ap (λ (x : ℕ). n * x) (pow-add 2 (suc k) b) ∙ sym (mul-assoc n (2 ^ suc k) (2 ^ b)) in
-    rw (up, shl-shr (n * 2 ^ suc k) b) even
+    let even : n * 2 ^ (l - b) % 2 ≡ 0 = rw (shl-split n (l - b) 1 (omega arith)) (mul-mod-left (n * 2 ^ (l - b - 1)) 2) in
+    rw (shl-split n l b (omega arith), shl-shr (n * 2 ^ (l - b)) b) even
 
 -- a value that is kept in w bits
 pub bit-kept : (n w b : ℕ) → b < w → bitAt (n % 2 ^ w) b ≡ bitAt n b

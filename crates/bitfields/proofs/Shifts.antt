@@ -2,10 +2,10 @@
 -- Assumes nothing.
 use mathlib.Core.Path.{_≡_, sym, ap, _∙_}
 use Prim.Native.Nat.{ℕ, zero, _-_, _*_, _/_, _%_, _^_, _<_, _≤_}
-use native.Mathlib.Nat.{one-mul, mul-assoc, mul-mod-left, mod-eq-of-lt, div-eq-of-lt, zero-mod, lt-of-lt-of-le}
-use native.Mathlib.Omega.{arith}
-use lib.Pow.{pow-pos, pow-lt, pow-mono, pow-add}
+use native.Mathlib.Nat.{one-mul, mul-mod-left, mod-eq-of-lt, div-eq-of-lt, zero-mod, lt-of-lt-of-le}
+use lib.Pow.{pow-pos, pow-lt, pow-mono}
 use Rattle.bitfields.specs.Fields.{wordBits}
+use Rattle.bitfields.proofs.Bits.{shl-split}
 
 -- a value of a word fits each width from the word's own on
 pub all-kept : (v w : ℕ) → v < 2 ^ wordBits → wordBits ≤ w → v ≡ v % 2 ^ w
@@ -22,10 +22,7 @@ kept v w r h e = rw (one-shifted w h) at e
 
 -- nothing is left of what stands above the word
 pub lost : (v l : ℕ) → wordBits ≤ l → 0 ≡ v * 2 ^ l % 2 ^ wordBits
-lost v l h =
-    let up : v * 2 ^ l ≡ v * 2 ^ (l - wordBits) * 2 ^ wordBits =
-    ap (λ (x : ℕ). v * 2 ^ x) (omega arith) ∙ ap (λ (x : ℕ). v * x) (pow-add 2 (l - wordBits) wordBits) ∙ sym (mul-assoc v (2 ^ (l - wordBits)) (2 ^ wordBits)) in
-    sym (rw up (mul-mod-left (v * 2 ^ (l - wordBits)) (2 ^ wordBits)))
+lost v l h = sym (rw (shl-split v l wordBits h) (mul-mod-left (v * 2 ^ (l - wordBits)) (2 ^ wordBits)))
 
 pub nothing-above : (v l w : ℕ) → v < 2 ^ wordBits → wordBits ≤ l → 0 ≡ v / 2 ^ l % 2 ^ w
 nothing-above v l w h above = sym (rw (div-eq-of-lt (lt-of-lt-of-le h (pow-mono above))) (zero-mod (2 ^ w)))
