@@ -1,6 +1,7 @@
 pub mod Overwriting
 pub mod Digits
 pub mod Writing
+pub mod Below
 pub mod Decimals
 pub mod Values
 pub mod Copying

@@ -41,7 +41,7 @@ fn value_at(values: &[u64], i: usize) -> u64
 }
 
 // A byte; 0 past the end.
-fn byte_at(bytes: &[u8], i: usize) -> u8
+pub fn byte_at(bytes: &[u8], i: usize) -> u8
     ensures { λ r. ⌜ r ≡ getD (now (bytes .entry)) i 0 ⌝ }
 {
     if i < bytes.len() { bytes[i] } else { 0 }

@@ -17,11 +17,12 @@ use Rattle.words.specs.UpperByte.{kindOfByte}
 use Rattle.words.proofs.Allowed.{allowed-none}
 use Rattle.words.proofs.UpperByte.{kind-by-byte}
 use Rattle.words.proofs.Tests.{and-left, and-right, or-left, or-right}
+use Rattle.layout.specs.Below.{textsBelow}
 use Rattle.layout.specs.Numbers.{bit, ascii, hexOf}
 use Rattle.layout.specs.Template.{layout}
 use Rattle.layout.proofs.Alternatives.{mostFrom, mostOf, layout-most}
 use Rattle.names.specs.Kind.{kindTemplate, kindName}
-use Rattle.names.specs.Table.{wordAt, isAllowed, isFirst, boundText, textsBelow, anyBelow, rangesText, gapText, byteText, nameText, rowText, tableText}
+use Rattle.names.specs.Table.{wordAt, isAllowed, isFirst, boundText, anyBelow, rangesText, gapText, byteText, nameText, rowText, tableText}
 
 -- how many of these places are l, and how many are below n
 unfoldable hits : List ℕ → ℕ → ℕ

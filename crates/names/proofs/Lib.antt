@@ -1,4 +1,3 @@
-pub mod Below
 pub mod Ranges
 pub mod Fitting
 pub mod Rows

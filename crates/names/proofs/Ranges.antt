@@ -12,10 +12,11 @@ use lib.Dec.{eqb}
 use lib.ListN.{length}
 use Rattle.words.specs.Codec.{decodedNumber, findingNumber}
 use Rattle.words.specs.declared.Decoded.{Decoded}
+use Rattle.layout.specs.Below.{textsBelow}
 use Rattle.layout.specs.Numbers.{ascii, hexOf}
 use Rattle.layout.specs.Written.{Written}
 use Rattle.layout.proofs.Writing.{written-then, written-none}
-use Rattle.names.specs.Table.{wordAt, isAllowed, isFirst, boundText, textsBelow, anyBelow, rangesText}
+use Rattle.names.specs.Table.{wordAt, isAllowed, isFirst, boundText, anyBelow, rangesText}
 
 module _ (b l : ℕ) where
   pub allowed-past : 256 ≤ l → false ≡ isAllowed b l

@@ -7,11 +7,12 @@ use native.Mathlib.Omega.{arith}
 use borrow.Author.Tests.{eq-eqb, ne-eqb}
 use lib.ListN.{length, take}
 use Rattle.words.specs.UpperByte.{kindOfByte}
+use Rattle.layout.specs.Below.{textsBelow}
 use Rattle.layout.specs.Numbers.{ascii, hexOf}
 use Rattle.layout.specs.Written.{Written, Front}
 use Rattle.layout.proofs.Writing.{written-then, written-three, written-four, written-none, written-front}
 use Rattle.names.specs.Kind.{kindName}
-use Rattle.names.specs.Table.{textsBelow, rangesText, gapText, byteText, nameText, rowText, tableText}
+use Rattle.names.specs.Table.{rangesText, gapText, byteText, nameText, rowText, tableText}
 use Rattle.names.proofs.Fitting.{table-fits}
 
 module _ (b : ℕ) {old : List ℕ} {at p : ℕ} where

@@ -9,6 +9,7 @@ use lib.Dec.{ltb, eqb}
 use lib.ListN.{take}
 use Rattle.words.specs.Codec.{findingNumber}
 use Rattle.words.specs.UpperByte.{kindOfByte}
+use Rattle.layout.specs.Below.{textsBelow}
 use Rattle.layout.specs.Numbers.{ascii, hexOf}
 use Rattle.names.specs.Kind.{kindName}
 
@@ -30,11 +31,6 @@ boundText b l =
     cond (not (isAllowed b l)) []
     (cond (isFirst b l) (code " " ∷ hexOf (wordAt b l))
     (cond (isAllowed b (l + 1)) [] (code "-" ∷ hexOf (wordAt b l))))
-
--- The texts of the numbers below n, one after another.
-unfoldable pub textsBelow : (ℕ → List ℕ) → ℕ → List ℕ
-textsBelow text zero = []
-textsBelow text (suc n) = textsBelow text n ++ text n
 
 -- Whether any word with a lower byte below n is allowed.
 unfoldable pub anyBelow : ℕ → ℕ → Bool

@@ -9,9 +9,10 @@ use words::upper_byte::kind_of_byte;
 ghost use mathlib.Core.Path.{_≡_};
 ghost use mathlib.Core.List.{_∷_};
 ghost use Prim.Native.Nat.{_<_};
+ghost use Rattle.layout.specs.Below.{textsBelow};
 ghost use Rattle.layout.specs.Numbers.{hexOf};
 ghost use Rattle.layout.specs.Written.{Written, Front};
-ghost use Rattle.names.specs.Table.{isAllowed, isFirst, boundText, textsBelow, anyBelow, rangesText, gapText, byteText, nameText, rowText, tableText};
+ghost use Rattle.names.specs.Table.{isAllowed, isFirst, boundText, anyBelow, rangesText, gapText, byteText, nameText, rowText, tableText};
 
 // Room for the table.
 pub const LONGEST: usize = 16384;

@@ -1,15 +1,15 @@
 -- `names::table::put_bounds` meets its contract. The loop's invariant: the bounds below the next word are written.
 -- Assumes nothing.
 use Prim.Native.Nat.{_-_}
+use Rattle.layout.proofs.Below.{TextsWritten, texts-first, texts-next, texts-done}
 use Rattle.layout.proofs.Writing.{written-long}
 use Rattle.names.specs.Table.{boundText}
-use Rattle.names.proofs.Below.{TextsWritten, texts-first, texts-next, texts-done}
 use borrow.Author.Needs.{needs}
 use Rattle.names.proofs.table.put_bounds.Statement.{statement}
 use Rattle.names.proofs.table.put_bounds.Tie as tie
 
 abbrev Inv-loop : tie.InvT-loop
-Inv-loop out₀ at byte place₀ low₀ out place low = TextsWritten (boundText byte) out₀ at out place low
+Inv-loop out₀ at byte place₀ low₀ out place low = TextsWritten (boundText byte) 256 out₀ at out place low
 
 abbrev μ-loop : tie.MeasureT-loop
 μ-loop out₀ at byte place₀ low₀ out place low = 256 - low

@@ -1,15 +1,15 @@
 -- `names::table::put_rows` meets its contract. The loop's invariant: the lines of the bytes below the next one are written.
 -- Assumes nothing.
 use Prim.Native.Nat.{_-_}
+use Rattle.layout.proofs.Below.{TextsWritten, texts-first, texts-next, texts-done}
 use Rattle.layout.proofs.Writing.{written-long}
 use Rattle.names.specs.Table.{rowText}
-use Rattle.names.proofs.Below.{TextsWritten, texts-first, texts-next, texts-done}
 use borrow.Author.Needs.{needs}
 use Rattle.names.proofs.table.put_rows.Statement.{statement}
 use Rattle.names.proofs.table.put_rows.Tie as tie
 
 abbrev Inv-loop : tie.InvT-loop
-Inv-loop out₀ at place₀ byte₀ out place byte = TextsWritten rowText out₀ at out place byte
+Inv-loop out₀ at place₀ byte₀ out place byte = TextsWritten rowText 256 out₀ at out place byte
 
 abbrev μ-loop : tie.MeasureT-loop
 μ-loop out₀ at place₀ byte₀ out place byte = 256 - byte
