@@ -1,0 +1,3 @@
+pub mod Map
+pub mod Readout
+pub mod Measured
