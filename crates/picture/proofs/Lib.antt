@@ -1,0 +1,4 @@
+pub mod Dots
+pub mod Bytes
+pub mod Rows
+pub mod Pictures

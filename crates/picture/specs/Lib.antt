@@ -1,0 +1,3 @@
+pub mod Raster
+pub mod Picture
+pub mod Printed
