@@ -1,11 +1,13 @@
 /*
- * Shabgozim: verified ground software for the VIRTIS-M instrument head.
+ * Shabgozim: verified ground software for the VIRTIS-M instrument head, and for
+ * the requests and the pixel map of the high-resolution head (PEM-H).
  *
  * Build the archives and link them; nothing else is needed. The second is for
  * the functions that write or read texts (`shabgozim_listing`,
  * `shabgozim_report`, `shabgozim_refusal`, `shabgozim_read_list`,
- * `shabgozim_inspection`, `shabgozim_list_refusal`, `shabgozim_upper_bytes`),
- * and may be left out where none of them is called:
+ * `shabgozim_inspection`, `shabgozim_list_refusal`, `shabgozim_upper_bytes`,
+ * `shabgozim_h_picture`, `shabgozim_h_refusal`), and may be left out where none
+ * of them is called:
  *
  *     rt staticlib interface
  *     rt staticlib texts
@@ -24,8 +26,8 @@
  * never ends the program. Calls on different buffers may run at the same time.
  *
  * Numbers of refusals are those of documents 01 and 02: 1-10 for plans, 11-13
- * for blocks, 21-25 for the head, 31 for lists; 91-96, for lists as text, are
- * the library's own. 0 is success.
+ * for blocks, 21-25 for the head, 31 for lists, 41-42 for pixel maps, 43-44 for
+ * requests; 91-96, for lists as text, are the library's own. 0 is success.
  *
  * One tick is 10 ms.
  */
@@ -232,7 +234,7 @@ uint64_t shabgozim_translate(const uint16_t *state, size_t state_length,
 enum {
     SHABGOZIM_LISTING = 8192,
     SHABGOZIM_REPORT = 65536,
-    SHABGOZIM_REFUSAL = 1024, /* of a plan, or of a list's text */
+    SHABGOZIM_REFUSAL = 1024, /* of a plan, a list's text, a map or a request */
     SHABGOZIM_INSPECTION = 262144,
     SHABGOZIM_UPPER_BYTES = 16384
 };
@@ -435,6 +437,127 @@ uint32_t shabgozim_read_ir(const uint16_t *block, size_t block_length,
 
 uint32_t shabgozim_read_ccd(const uint16_t *block, size_t block_length,
                             uint16_t *numbers, size_t numbers_length);
+
+/* ------------------------------------------------------------------------
+ * The high-resolution head (PEM-H): its requests and its pixel map.
+ *
+ * A request's word has its code in the top six bits and its value in the low
+ * ten. The 32 requests of source document 000, section 4.2, are numbered in the
+ * order of its table. Beside each stand its code and the values it allows; a
+ * value is the whole parameter, also where the table leaves only one.
+ *
+ * HSET_PEM_MODE: bit 0 all matrix (else 8 orders), bit 1 simulation (else
+ * observation). HSET_COVER: bit 0 opens, bit 1 one wave (else half a wave),
+ * bit 2 Hall sensors enabled, bits 3-9 the number of steps.
+ */
+enum {
+    SHABGOZIM_HSET_BIAS = 0,             /* 001000  0-255 */
+    SHABGOZIM_HSET_I_LAMP_SPECT_T = 1,   /* 001001  0-255 */
+    SHABGOZIM_HSET_I_LAMP_SPECT_S = 2,   /* 001001  0-255 */
+    SHABGOZIM_HSET_I_LAMP_RADIO = 3,     /* 001001  0-255 */
+    SHABGOZIM_HSET_I_SHUTTER = 4,        /* 001010  0-255 */
+    SHABGOZIM_HSET_INT_NUM1 = 5,         /* 010100  0-1023 */
+    SHABGOZIM_HSET_INT_NUM2 = 6,         /* 010101  0-255 */
+    SHABGOZIM_HINIT_PIX_MAP_UPLD = 7,    /* 001110  0 */
+    SHABGOZIM_HINIT_PIX_MAP_DNLD = 8,    /* 001110  0 */
+    SHABGOZIM_HSET_PIX_MAP_DATA = 9,     /* 001100  0-255 */
+    SHABGOZIM_HDNLD_PIX_MAP_DATA = 10,   /* 001101  0 */
+    SHABGOZIM_HSET_PEM_MODE = 11,        /* 011010  0-3, fields above */
+    SHABGOZIM_HNOP = 12,                 /* 000000  0 */
+    SHABGOZIM_HSTART_S = 13,             /* 000001  0 */
+    SHABGOZIM_HSTART_HK = 14,            /* 000010  0 */
+    SHABGOZIM_HSTOP_READOUT = 15,        /* 000011  0 */
+    SHABGOZIM_HRESYNC = 16,              /* 001000  0 */
+    SHABGOZIM_HSET_DET_ON = 17,          /* 010001  1 */
+    SHABGOZIM_HSET_DET_OFF = 18,         /* 010001  0 */
+    SHABGOZIM_HSET_SHUTTER_ON = 19,      /* 011011  1: closed */
+    SHABGOZIM_HSET_SHUTTER_OFF = 20,     /* 011011  0: open */
+    SHABGOZIM_HSET_SHUTTER_STATUS = 21,  /* 011111  0 off, 1 on */
+    SHABGOZIM_HSET_FPA_HTR_ON = 22,      /* 011100  1 */
+    SHABGOZIM_HSET_FPA_HTR_OFF = 23,     /* 011100  0 */
+    SHABGOZIM_HSET_LAMP_SPECT_T_ON = 24, /* 011101  1 */
+    SHABGOZIM_HSET_LAMP_SPECT_S_ON = 25, /* 011101  2 */
+    SHABGOZIM_HSET_LAMP_RADIO_ON = 26,   /* 011101  4 */
+    SHABGOZIM_HSET_CAL_OFF = 27,         /* 011101  0: all three lamps */
+    SHABGOZIM_HSET_DET_TEMP_ON = 28,     /* 011110  1 */
+    SHABGOZIM_HSET_DET_TEMP_OFF = 29,    /* 011110  0 */
+    SHABGOZIM_HSET_COVER = 30,           /* 010010  0-1023, fields above */
+    SHABGOZIM_HSET_TEST_INIT = 31,       /* 010011  0-1023 */
+    SHABGOZIM_H_REQUESTS = 32            /* how many there are */
+};
+
+/*
+ * Words that several requests have. What such a word means is none of these
+ * requests, but a shared meaning: 0x80 + the number of the first of them.
+ */
+enum {
+    SHABGOZIM_H_SHARED = 0x80, /* set in every shared meaning, in no other */
+    /* 2000: HSET_BIAS with value 0, HRESYNC */
+    SHABGOZIM_H_SHARED_BIAS_RESYNC = 0x80,
+    /* 2400-24FF: HSET_I_LAMP_SPECT_T, HSET_I_LAMP_SPECT_S, HSET_I_LAMP_RADIO */
+    SHABGOZIM_H_SHARED_I_LAMP = 0x81,
+    /* 3800: HINIT_PIX_MAP_UPLD, HINIT_PIX_MAP_DNLD */
+    SHABGOZIM_H_SHARED_INIT_PIX_MAP = 0x87
+};
+
+/*
+ * What a request's word means. Bits 24-31: 0, 43 (no request has its code) or
+ * 44 (value out of range). Bits 16-23: the request, or a shared meaning. Bits
+ * 0-15: the value. Bits 0-23 are 0 for 43 and 44.
+ */
+uint32_t shabgozim_h_decode(uint16_t word);
+
+/*
+ * The word of a request and its value. Bits 24-31: 0, 43 (there is no such
+ * request) or 44 (value out of range). Bits 0-15: the word, 0 for 43 and 44.
+ */
+uint32_t shabgozim_h_encode(uint8_t request, uint16_t value);
+
+/*
+ * A pixel map has a bit for each pixel of the detector, row by row: 1 for a
+ * lighted one, which is read. The first pixel is in the top bit of the first
+ * byte. The four bits that are left over at the end are 0.
+ */
+enum {
+    SHABGOZIM_H_ROWS = 270,
+    SHABGOZIM_H_COLUMNS = 438,
+    SHABGOZIM_H_PIXELS = 118260,
+    SHABGOZIM_H_MAP = 14783,    /* bytes of a map */
+    SHABGOZIM_H_PICTURE = 16384 /* bytes that have room for every picture */
+};
+
+/*
+ * The number of lighted pixels in a map, and the time of its readout in
+ * microseconds: 10 for each lighted pixel, 1 for each other, 40 for each line.
+ *
+ * Bits 24-31: 0; 41 where `length` is not 14,783; 42 where a spare bit is set.
+ * Bits 0-23: the number or the time, 0 for 41 and 42.
+ */
+uint32_t shabgozim_h_lighted(const uint8_t *map, size_t length);
+
+uint32_t shabgozim_h_readout(const uint8_t *map, size_t length);
+
+/*
+ * Writes a map as a picture to look at: a portable bitmap (raw PBM, P4) of 438
+ * by 270 in which lighted pixels are black. A comment in it tells their number
+ * and the time of the readout.
+ *
+ * Bits 0-7 of the answer: 0; 41 and 42 as above; 10 where `text` is shorter
+ * than the picture (the last check). Bits 32-63, for 0 and 10: the length of
+ * the picture. All other bits are 0.
+ *
+ * Success writes the picture into the first bytes of `text`, and no other.
+ */
+uint64_t shabgozim_h_picture(const uint8_t *map, size_t map_length,
+                             uint8_t *text, size_t text_length);
+
+/*
+ * Writes a refusal of a map (41, 42) or a request (43, 44) in words, one line.
+ *
+ * Answers the length of the line; 0 where `number` is not 41-44 or `text` is
+ * shorter than the line, and then writes nothing.
+ */
+uint32_t shabgozim_h_refusal(uint8_t number, uint8_t *text, size_t text_length);
 
 #ifdef __cplusplus
 }

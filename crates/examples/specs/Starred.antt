@@ -1,5 +1,5 @@
--- Document 01, "Examples": the starred ones, a row for each result: what the definitions give, and what the paper says. Words are in
--- hexadecimal, all else in decimal.
+-- Document 01, "Examples": the starred ones, and the figures of document 02's request P5. A row for each result: what the definitions
+-- give, and what the paper says. Words are in hexadecimal, all else in decimal.
 -- Assumes nothing.
 use Prim.Native.Nat.{ℕ}
 use mathlib.Core.Bool.{Bool, true, false, _&&_}
@@ -22,6 +22,8 @@ use Rattle.blocks.specs.Ccd.{ccdWords, ccdReadings}
 use Rattle.blocks.specs.declared.ir.IrBits.{IrBits}
 use Rattle.blocks.specs.declared.ccd.CcdBits.{CcdBits}
 use Rattle.due.specs.Due.{irDueAfter, ccdDueAfter}
+use Rattle.pixels.specs.Map.{pixels}
+use Rattle.pixels.specs.Readout.{readoutTime}
 
 pub record Row : Type 0 where
   pub got : ℕ
@@ -133,7 +135,15 @@ plansListed =
     ∷ (scheduled listedPlan .end gives 230)
     ∷ []
 
+-- Document 02, request P5: the time of a readout, for so many lighted pixels and for all.
+unfoldable pub readouts : List Row
+readouts =
+    (readoutTime 17280 gives 284580)
+    ∷ (pixels gives 118260)
+    ∷ (readoutTime pixels gives 1193400)
+    ∷ []
+
 -- The whole table.
 unfoldable pub table : List Row
-unfolding fromPowerOn blocksHousekept plansListed
-table = fromPowerOn ++ (blocksHousekept ++ plansListed)
+unfolding fromPowerOn blocksHousekept plansListed readouts
+table = fromPowerOn ++ (blocksHousekept ++ (plansListed ++ readouts))

@@ -6,3 +6,4 @@ pub mod Translation
 pub mod Writing
 pub mod Reading
 pub mod Arrays
+pub mod PemH

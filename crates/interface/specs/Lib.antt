@@ -3,3 +3,4 @@ pub mod Stepping
 pub mod Codec
 pub mod Plans
 pub mod Blocks
+pub mod PemH

@@ -4,3 +4,4 @@ pub mod Listing
 pub mod Reporting
 pub mod Wording
 pub mod Reading
+pub mod PemH

@@ -37,7 +37,7 @@ pub(crate) fn hand_over_counted(made: &[u8], text: &mut [u8], count: usize) -> u
     packed(0, count, made.len())
 }
 
-fn hand_over(made: &[u8], text: &mut [u8]) -> u64
+pub(crate) fn hand_over(made: &[u8], text: &mut [u8]) -> u64
     requires { ⌜ length (now made) < 2 ^ 32 ⌝ }
     ensures { λ r. ⌜ r ≡ roomAnswer (now (made .entry)) (now (text .entry)) ⌝ }
     ensures { λ _. ⌜ now (text .exit) ≡ textAfter (hasRoom (now (made .entry)) (now (text .entry))) (now (made .entry)) (now (text .entry)) ⌝ }

@@ -4,6 +4,7 @@
 pub mod arrays;
 pub mod handing;
 pub mod lists;
+pub mod pem_h;
 
 use import::read::read_list;
 use interface::state::well_formed;
