@@ -3,7 +3,9 @@
 //! document 02's requests P1 and P3 alone; reports and refusals in words from
 //! their description and the stored reports; lists read from text and inspected
 //! from their description; the second decoder from document 02's request P2, and
-//! the table of upper bytes from its description.
+//! the table of upper bytes from its description; the high-resolution head from
+//! document 000's section 4.2 and document 02's request P5, and its picture from
+//! its description.
 //!
 //! | module | idea |
 //! |---|---|
@@ -22,6 +24,7 @@
 //! | [`inspection`](mod@inspection) | a list word by word, laid out for reading |
 //! | [`report`](mod@report) | what a head does with a plan, laid out for reading |
 //! | `in_words` | a refusal of a plan in words |
+//! | [`pem_h`] | the high-resolution head: requests, pixel map, picture |
 
 #![forbid(unsafe_code)]
 
@@ -31,6 +34,7 @@ mod in_words;
 pub mod inspection;
 pub mod list;
 pub mod listing;
+pub mod pem_h;
 pub mod plan;
 pub mod reading;
 pub mod report;
