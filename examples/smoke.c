@@ -2,7 +2,8 @@
  * Drives the library through its C interface: a few words and ticks by hand,
  * then document 01's example plan, translated and run tick by tick on the head;
  * then its list in one call, whole and with a word lost; then texts, the list
- * with a word lost read from text and inspected, and the table of upper bytes.
+ * with a word lost read from text and inspected, and the table of upper bytes;
+ * last the requests and the pixel map of the high-resolution head.
  *
  *     rt staticlib interface && rt staticlib texts
  *     cc -Wall -Wextra -Werror -I include examples/smoke.c \
@@ -258,6 +259,16 @@ static void inspect_lists(void)
     inspect_list("tick word\n0 2011\n1 A000\n1 600F\n3 E0F8\n");
 }
 
+/* The first lines of a text. */
+static void print_lines(const uint8_t *text, size_t length, size_t count)
+{
+    size_t lines = 0;
+    for (size_t i = 0; i < length && lines < count; i++) {
+        putchar(text[i]);
+        lines += text[i] == '\n';
+    }
+}
+
 /* The title and the first lines of the table of upper bytes; without room for
  * all of it nothing is written. */
 static void print_upper_bytes(void)
@@ -265,14 +276,52 @@ static void print_upper_bytes(void)
     static uint8_t text[SHABGOZIM_UPPER_BYTES];
     uint64_t written = shabgozim_upper_bytes(text, sizeof text);
     size_t length = (size_t)(written >> 32);
-    size_t lines = 0;
-    for (size_t i = 0; i < length && lines < 4; i++) {
-        putchar(text[i]);
-        lines += text[i] == '\n';
-    }
+    print_lines(text, length, 4);
     uint64_t refused = shabgozim_upper_bytes(text, length - 1);
     printf("table of %zu bytes; with one byte less room %u\n", length,
            (unsigned)(refused & 0xFF));
+}
+
+static void print_h_refusal(uint32_t number)
+{
+    static uint8_t text[SHABGOZIM_REFUSAL];
+    uint32_t length = shabgozim_h_refusal((uint8_t)number, text, sizeof text);
+    fwrite(text, 1, length, stdout);
+}
+
+/* Requests to words and back: one by itself, one of three that share their
+ * words, and two refused. */
+static void print_requests(void)
+{
+    printf("encode HSET_Det/On %08" PRIX32 ", decode 4401 %08" PRIX32 "\n",
+           shabgozim_h_encode(SHABGOZIM_HSET_DET_ON, 1),
+           shabgozim_h_decode(0x4401));
+    uint32_t lamp = shabgozim_h_decode(0x2405);
+    printf("decode 2405 %08" PRIX32 ", current of some lamp: %d\n", lamp,
+           lamp >> 16 == SHABGOZIM_H_SHARED_I_LAMP);
+    print_h_refusal(shabgozim_h_decode(0xFFFF) >> 24);
+    print_h_refusal(shabgozim_h_encode(SHABGOZIM_HSET_BIAS, 256) >> 24);
+}
+
+/* A pixel map with as many pixels lighted as the eight orders have, and the
+ * lines before the pixels of its picture; then without its last byte, and with
+ * a spare bit set. */
+static void print_pixel_map(void)
+{
+    static uint8_t map[SHABGOZIM_H_MAP];
+    static uint8_t picture[SHABGOZIM_H_PICTURE];
+    memset(map, 0xFF, 17280 / 8);
+    printf("lighted %" PRIu32 ", readout %" PRIu32 " us\n",
+           shabgozim_h_lighted(map, sizeof map),
+           shabgozim_h_readout(map, sizeof map));
+    uint64_t written = shabgozim_h_picture(map, sizeof map, picture,
+                                           sizeof picture);
+    size_t length = (size_t)(written >> 32);
+    print_lines(picture, length, 3);
+    printf("picture of %zu bytes\n", length);
+    print_h_refusal(shabgozim_h_lighted(map, sizeof map - 1) >> 24);
+    map[SHABGOZIM_H_MAP - 1] = 1;
+    print_h_refusal(shabgozim_h_readout(map, sizeof map) >> 24);
 }
 
 int main(void)
@@ -284,5 +333,7 @@ int main(void)
     print_texts();
     inspect_lists();
     print_upper_bytes();
+    print_requests();
+    print_pixel_map();
     return 0;
 }

@@ -104,4 +104,15 @@ extern "C" {
         meaning: *mut u16,
         meaning_len: usize,
     ) -> u32;
+    pub fn shabgozim_h_lighted(map: *const u8, map_len: usize) -> u32;
+    pub fn shabgozim_h_readout(map: *const u8, map_len: usize) -> u32;
+    pub fn shabgozim_h_decode(word: u16) -> u32;
+    pub fn shabgozim_h_encode(request: u8, value: u16) -> u32;
+    pub fn shabgozim_h_picture(
+        map: *const u8,
+        map_len: usize,
+        text: *mut u8,
+        text_len: usize,
+    ) -> u64;
+    pub fn shabgozim_h_refusal(number: u8, text: *mut u8, text_len: usize) -> u32;
 }

@@ -1,5 +1,6 @@
 //! Safe functions and plain types over the C interface of the verified
-//! library for the VIRTIS-M instrument head.
+//! library for the VIRTIS-M instrument head, and for the requests and the pixel
+//! map of the high-resolution head.
 //!
 //! | item | idea |
 //! |---|---|
@@ -11,11 +12,15 @@
 //! | [`listing`], [`State::report`], [`PlanRefusal::in_words`] | a plan listed, its simulation reported, a refusal in words |
 //! | [`read_list`], [`inspection`], [`ListTextRefusal::in_words`] | a list read from text and inspected |
 //! | [`write_ir`], [`read_ir`], [`write_ccd`], [`read_ccd`] | the two housekeeping blocks |
+//! | [`decode_request`], [`encode_request`], [`Request`], [`Meaning`] | the 32 requests of the high-resolution head |
+//! | [`PixelMap`], [`MapRefusal`] | its pixel map: lighted pixels, readout time, picture |
 //! | [`raw`] | the same functions over slices, answers still packed |
 //!
 //! Every answer is the one that document 01 gives (for lists document 02's
-//! request P1, for upper bytes its request P2), for any input; what the library proves holds of the C
-//! functions, and this crate only unpacks.
+//! request P1, for upper bytes its request P2, for the high-resolution head its
+//! request P5), for any input; what the library proves holds of the C
+//! functions, and this crate only unpacks. Single pixels of a [`PixelMap`] and
+//! the fields of [`CoverParameter`] and [`PemMode`] are found by this crate.
 //!
 //! # Examples
 //!
@@ -47,12 +52,27 @@
 //! // Ticks must rise.
 //! assert_eq!(head.list(&[(5, 0), (5, 0)]), Err(ListRefusal::NoList));
 //! ```
+//!
+//! A request of the high-resolution head, to a word and back:
+//!
+//! ```
+//! use shabgozim::{decode_request, encode_request, Meaning, Request};
+//!
+//! let word = encode_request(Request::HSetDetOn, 1).unwrap();
+//! assert_eq!(word, 0x4401);
+//! assert_eq!(decode_request(word), Ok((Meaning::One(Request::HSetDetOn), 1)));
+//! // Three requests have the same words for a lamp's current.
+//! let (meaning, value) = decode_request(0x2405).unwrap();
+//! assert_eq!((meaning.requests().len(), value), (3, 5));
+//! ```
 
 mod blocks;
 mod ffi;
 mod list;
+mod pixel_map;
 mod plan;
 pub mod raw;
+mod requests;
 mod state;
 mod text;
 mod text_list;
@@ -60,7 +80,9 @@ mod words;
 
 pub use blocks::*;
 pub use list::*;
+pub use pixel_map::*;
 pub use plan::*;
+pub use requests::*;
 pub use state::*;
 pub use text::*;
 pub use text_list::*;

@@ -258,3 +258,45 @@ pub fn read_ccd(block: &[u16], meaning: &mut [u16]) -> u32 {
         )
     }
 }
+
+/// The lighted pixels of a pixel map in bits 0 to 23, number (0, 41, 42) in 24
+/// to 31.
+pub fn h_lighted(map: &[u8]) -> u32 {
+    // SAFETY: as above, for one slice.
+    unsafe { ffi::shabgozim_h_lighted(map.as_ptr(), map.len()) }
+}
+
+/// The time of a pixel map's readout in microseconds in bits 0 to 23, number
+/// (0, 41, 42) in 24 to 31.
+pub fn h_readout(map: &[u8]) -> u32 {
+    // SAFETY: as above, for one slice.
+    unsafe { ffi::shabgozim_h_readout(map.as_ptr(), map.len()) }
+}
+
+/// What a request's word means: value in bits 0 to 15, meaning in 16 to 23,
+/// number (0, 43, 44) in 24 to 31.
+pub fn h_decode(word: u16) -> u32 {
+    // SAFETY: a plain number.
+    unsafe { ffi::shabgozim_h_decode(word) }
+}
+
+/// The word of a request and its value: word in bits 0 to 15, number (0, 43,
+/// 44) in 24 to 31.
+pub fn h_encode(request: u8, value: u16) -> u32 {
+    // SAFETY: plain numbers.
+    unsafe { ffi::shabgozim_h_encode(request, value) }
+}
+
+/// Writes a pixel map's picture. Bits 0 to 7: number (0, 41, 42, or 10 where
+/// `text` is shorter); 32 to 63: the picture's length, for 0 and 10.
+pub fn h_picture(map: &[u8], text: &mut [u8]) -> u64 {
+    // SAFETY: as above, for two slices.
+    unsafe { ffi::shabgozim_h_picture(map.as_ptr(), map.len(), text.as_mut_ptr(), text.len()) }
+}
+
+/// Writes a refusal of a request or a pixel map in words, with a newline: the
+/// length, or 0 where `number` is none of 41 to 44 or `text` is shorter.
+pub fn h_refusal(number: u8, text: &mut [u8]) -> u32 {
+    // SAFETY: as above, for one slice.
+    unsafe { ffi::shabgozim_h_refusal(number, text.as_mut_ptr(), text.len()) }
+}

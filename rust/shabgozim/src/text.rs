@@ -102,6 +102,13 @@ fn written(answer: u64, text: Vec<u8>) -> Result<String, PlanRefusal> {
     }
 }
 
+/// A refusal of the high-resolution head in words.
+pub(crate) fn h_refusal(number: u8) -> String {
+    let mut text = vec![0; REFUSAL_LENGTH];
+    let length = raw::h_refusal(number, &mut text);
+    line(text, length)
+}
+
 /// The first bytes as text, without a newline at their end.
 pub(crate) fn line(text: Vec<u8>, length: u32) -> String {
     let mut line = first(text, length);
