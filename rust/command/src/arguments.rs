@@ -3,19 +3,26 @@
 use crate::description::{Inputs, Prints, OPTIONS, SUBCOMMANDS};
 use crate::failure::Failure;
 use crate::source::Source;
+use crate::texts::Text;
 use std::ffi::{OsStr, OsString};
 use std::os::unix::ffi::OsStrExt;
 
-pub enum Request {
+pub enum Asked {
     /// A text for which nothing is read.
     Show(fn() -> String),
-    /// The texts of plans, or of a list.
+    /// The texts of plans, or of a list, or the picture of a map.
     Texts(&'static Inputs, Vec<Source>),
+    /// The text about words.
+    Words(fn(&[u16]) -> Text, Vec<u16>),
 }
+
+/// How many digits a word has.
+const WORD_DIGITS: usize = 4;
+const NO_WORD: &str = "not a word of four hexadecimal digits";
 
 /// Reads the arguments after the program's name. Options may stand anywhere
 /// before `--`; the first one decides.
-pub fn read(arguments: impl Iterator<Item = OsString>) -> Result<Request, Failure> {
+pub fn read(arguments: impl Iterator<Item = OsString>) -> Result<Asked, Failure> {
     let mut operands = Vec::new();
     let mut options_ended = false;
     for argument in arguments {
@@ -35,18 +42,18 @@ fn begins_as_option(argument: &OsStr) -> bool {
     argument.as_bytes().starts_with(b"-") && argument != "-"
 }
 
-fn option(argument: &OsStr) -> Result<Request, Failure> {
+fn option(argument: &OsStr) -> Result<Asked, Failure> {
     let found = OPTIONS
         .iter()
         .find(|option| option.names.iter().any(|name| argument == *name));
     match found {
-        Some(option) => Ok(Request::Show(option.text)),
+        Some(option) => Ok(Asked::Show(option.text)),
         None => Err(Failure::usage(argument, "unknown option")),
     }
 }
 
-/// A subcommand and its names.
-fn subcommand(operands: Vec<OsString>) -> Result<Request, Failure> {
+/// A subcommand and its names or words.
+fn subcommand(operands: Vec<OsString>) -> Result<Asked, Failure> {
     let mut operands = operands.into_iter();
     let Some(name) = operands.next() else {
         return Err(Failure::usage(OsStr::new("subcommand"), "missing"));
@@ -54,23 +61,25 @@ fn subcommand(operands: Vec<OsString>) -> Result<Request, Failure> {
     let Some(subcommand) = SUBCOMMANDS.iter().find(|known| name == known.name) else {
         return Err(Failure::usage(&name, "unknown subcommand"));
     };
-    let sources: Vec<Source> = operands.map(Source::of).collect();
     match &subcommand.prints {
         Prints::Table(text) => {
-            at_most(&sources, 0)?;
-            Ok(Request::Show(*text))
+            sources(operands, 0)?;
+            Ok(Asked::Show(*text))
         }
         Prints::Texts(inputs) => {
-            at_most(&sources, inputs.most_names)?;
-            Ok(Request::Texts(inputs, or_standard_input(sources)))
+            let sources = sources(operands, inputs.most_names)?;
+            Ok(Asked::Texts(inputs, or_standard_input(sources)))
         }
+        Prints::Words(text) => Ok(Asked::Words(*text, words(operands)?)),
     }
 }
 
-fn at_most(sources: &[Source], most: usize) -> Result<(), Failure> {
+/// The sources of the names, of which there may be so many.
+fn sources(names: impl Iterator<Item = OsString>, most: usize) -> Result<Vec<Source>, Failure> {
+    let sources: Vec<Source> = names.map(Source::of).collect();
     match sources.get(most) {
         Some(excess) => Err(Failure::usage(excess.name(), "one name too many")),
-        None => Ok(()),
+        None => Ok(sources),
     }
 }
 
@@ -79,4 +88,24 @@ fn or_standard_input(mut sources: Vec<Source>) -> Vec<Source> {
         sources.push(Source::StandardInput);
     }
     sources
+}
+
+/// One word or more.
+fn words(operands: impl Iterator<Item = OsString>) -> Result<Vec<u16>, Failure> {
+    let words: Vec<u16> = operands.map(word).collect::<Result<_, _>>()?;
+    match words.is_empty() {
+        true => Err(Failure::usage(OsStr::new("word"), "missing")),
+        false => Ok(words),
+    }
+}
+
+/// The word that an operand is. Its digits are judged one by one, since a sign
+/// before them would be read too.
+fn word(operand: OsString) -> Result<u16, Failure> {
+    let digits = operand.to_str().unwrap_or_default();
+    let are_digits = digits.bytes().all(|digit| digit.is_ascii_hexdigit());
+    match u16::from_str_radix(digits, 16) {
+        Ok(word) if are_digits && digits.len() == WORD_DIGITS => Ok(word),
+        _ => Err(Failure::usage(&operand, NO_WORD)),
+    }
 }

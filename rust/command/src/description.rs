@@ -2,16 +2,16 @@
 //! and manual page are made from it.
 
 use crate::failure::{DONE, FAILED, REFUSED};
-use crate::texts::{inspected, planned, Text};
-use crate::{help, man};
-use shabgozim::{listing, upper_bytes, State, MOST_LIST_BYTES, MOST_PLAN_BYTES};
+use crate::texts::{inspected, pictured, planned, Text};
+use crate::{help, man, requests};
+use shabgozim::{listing, upper_bytes, PixelMap, State, MOST_LIST_BYTES, MOST_PLAN_BYTES};
 use std::ffi::c_int;
 
 pub const NAME: &str = "shabgozim";
 
 pub const SUMMARY: &str =
-    "lists plans for the VIRTIS-M instrument head, reports what the head does with them, and \
-     inspects lists";
+    "lists plans for the VIRTIS-M instrument head, reports what the head does with them, \
+     inspects lists, and shows pixel maps and requests of the high-resolution head";
 
 pub struct Subcommand {
     pub name: &'static str,
@@ -22,8 +22,10 @@ pub struct Subcommand {
 pub enum Prints {
     /// A text for which nothing is read.
     Table(fn() -> String),
-    /// The texts of plans, or of a list.
+    /// The texts of plans, or of a list, or the picture of a map.
     Texts(Inputs),
+    /// The text about words that are given as arguments.
+    Words(fn(&[u16]) -> Text),
 }
 
 pub struct Inputs {
@@ -32,10 +34,13 @@ pub struct Inputs {
     pub most_names: usize,
     /// The most bytes that an input may have.
     pub most_bytes: usize,
-    /// The text of an input for a head, or the refusal in words. The input has
-    /// one byte more where it is too long.
+    /// The text or picture of an input for a head, or the refusal in words. The
+    /// input has one byte more where it is too long.
     pub text: fn(&mut State, &[u8]) -> Result<Text, String>,
 }
+
+/// The words in the synopsis.
+pub const WORDS: &str = "WORD...";
 
 pub const SUBCOMMANDS: &[Subcommand] = &[
     Subcommand {
@@ -80,6 +85,25 @@ pub const SUBCOMMANDS: &[Subcommand] = &[
         says: "Prints a table to check words by eye: for each upper byte the kind of the words \
                that begin with it, and the ranges of those that are allowed. Nothing is read.",
     },
+    Subcommand {
+        name: "pixel-map",
+        prints: Prints::Texts(Inputs {
+            operands: "[MAP]",
+            most_names: 1,
+            most_bytes: PixelMap::BYTES,
+            text: |_, map| pictured(map),
+        }),
+        says: "Prints a pixel map of the high-resolution head as a picture, a portable bitmap \
+               (PBM): lighted pixels are black. The picture's second line tells how many there \
+               are and how long the readout takes.",
+    },
+    Subcommand {
+        name: "requests",
+        prints: Prints::Words(requests::lines),
+        says: "Prints what words for the high-resolution head ask for: a line for each, with its \
+               value, the request, and what the fields of the value say. Where several requests \
+               have the same word, all of them are named. Nothing is read.",
+    },
 ];
 
 /// An option prints a text about the program.
@@ -109,17 +133,18 @@ pub const OPTIONS: &[ShowOption] = &[
 
 /// What `--` does.
 pub const END_OF_OPTIONS: &str =
-    "Ends the options: every argument after it is a subcommand or a name, also one that begins \
-     with -.";
+    "Ends the options: every argument after it is a subcommand, a name or a word, also one that \
+     begins with -.";
 
 pub const STATUSES: &[(c_int, &str)] = &[
     (
         DONE,
-        "Everything was printed, and an inspected list has no findings.",
+        "Everything was printed, an inspected list has no findings, and no word was refused.",
     ),
     (
         REFUSED,
-        "A plan or a list was refused, or a list was inspected and has findings.",
+        "A plan, a list, a pixel map or a word was refused, or a list was inspected and has \
+         findings.",
     ),
     (
         FAILED,
@@ -142,6 +167,14 @@ pub const EXAMPLES: &[(&str, &str)] = &[
         "Puts a list into the folder sound, but only where its inspection has no findings.",
     ),
     (
+        "shabgozim pixel-map my.map > my.pbm",
+        "Makes a picture of a pixel map, which viewers of pictures open.",
+    ),
+    (
+        "shabgozim requests 4401 2405",
+        "Tells what two words ask of the high-resolution head.",
+    ),
+    (
         r"printf '\001\000\002\001\020' | shabgozim list",
         "Lists a plan of one housekeeping request.",
     ),
@@ -151,13 +184,18 @@ pub const EXAMPLES: &[(&str, &str)] = &[
 pub fn about() -> Vec<String> {
     let input = format!(
         "A PLAN is the name of a file that has a stored plan, a LIST that of a file that has a \
-         list of words as the subcommand list prints it. Without a name, and for the name -, \
-         standard input is read. A plan of more than {MOST_PLAN_BYTES} bytes and a list of more than \
-         {MOST_LIST_BYTES} bytes are refused."
+         list of words as the subcommand list prints it, a MAP that of a file that has a pixel \
+         map. Without a name, and for the name -, standard input is read. A plan of more than \
+         {MOST_PLAN_BYTES} bytes and a list of more than {MOST_LIST_BYTES} bytes are refused, and \
+         a map that has not {} bytes. A WORD is four hexadecimal digits, the letters of either \
+         case.",
+        PixelMap::BYTES
     );
-    let output = "What is printed is the verified library's text. Nothing is printed for a \
-                  refused plan or list: the refusal is told on standard error, with its number \
-                  and place. All output is written at the end, when it is complete.";
+    let output = "What is printed is the verified library's text; the lines of the subcommand \
+                  requests are made from its answers. Nothing is printed for a refused plan, list \
+                  or map: the refusal is told on standard error, with its number and, where it \
+                  has one, its place. A refused word has its refusal in its line. All output is \
+                  written at the end, when it is complete.";
     vec![input, output.into()]
 }
 

@@ -67,9 +67,9 @@ impl Descriptors {
         }
     }
 
-    /// Writes the whole text to the standard output.
-    pub fn print(&self, text: &str) -> Result<(), Failure> {
-        let written = borrowed(OUTPUT).write_all(text.as_bytes());
+    /// Writes all bytes to the standard output.
+    pub fn print(&self, bytes: &[u8]) -> Result<(), Failure> {
+        let written = borrowed(OUTPUT).write_all(bytes);
         written.map_err(output_failure)
     }
 

@@ -1,13 +1,14 @@
 //! `shabgozim`: lists plans, reports what the head does with them, inspects lists,
-//! and prints the table of upper bytes.
+//! prints the table of upper bytes, shows pixel maps, and reads requests.
 //!
 //! | module | idea |
 //! |---|---|
 //! | `description` | subcommands, options, statuses and examples, as data |
 //! | `sections`, `help`, `man` | the description in sections, as plain text, and as a manual page |
 //! | `arguments` | what is asked for |
-//! | `source` | where a plan or a list comes from, and its bytes |
-//! | `texts` | the texts of plans, one after another, and of a list |
+//! | `source` | where a plan, a list or a map comes from, and its bytes |
+//! | `texts` | the texts of plans, one after another, of a list, and a map's picture |
+//! | `requests` | what the words of requests mean, a line for each |
 //! | `failure` | why something was not done, told on standard error |
 //! | `descriptors` | standard input, output and error, as they were given |
 
@@ -19,16 +20,17 @@ mod descriptors;
 mod failure;
 mod help;
 mod man;
+mod requests;
 mod sections;
 mod source;
 mod texts;
 
-use arguments::Request;
+use arguments::Asked;
 use descriptors::Descriptors;
 use failure::{Failure, DONE};
 use std::env;
 use std::ffi::{c_char, c_int};
-use texts::Texts;
+use texts::{Text, Texts};
 
 /// Where the C library begins the program; `descriptors` says why this is not
 /// Rust's `main`. On Linux with glibc std knows the arguments all the same.
@@ -41,8 +43,9 @@ pub extern "C" fn main(_count: c_int, _arguments: *const *const c_char) -> c_int
 fn run() -> Result<c_int, Failure> {
     let descriptors = Descriptors::take()?;
     let done = match arguments::read(env::args_os().skip(1))? {
-        Request::Show(text) => Texts::of(text()),
-        Request::Texts(inputs, sources) => texts::of_all(inputs, &sources, &descriptors),
+        Asked::Show(text) => Texts::of(Text::done(text())),
+        Asked::Texts(inputs, sources) => texts::of_all(inputs, &sources, &descriptors),
+        Asked::Words(text, words) => Texts::of(text(&words)),
     };
     Ok(finish(done, descriptors))
 }
@@ -51,7 +54,7 @@ fn run() -> Result<c_int, Failure> {
 /// exit status. A program that reads the output through a pipe goes on when it is
 /// closed, so that its message comes after the one that explains it.
 fn finish(done: Texts, descriptors: Descriptors) -> c_int {
-    let printed = descriptors.print(&done.text);
+    let printed = descriptors.print(&done.bytes);
     let written = printed.is_ok();
     let told = tell([printed.err(), done.failure]);
     let closed = if written { descriptors.close() } else { Ok(()) };

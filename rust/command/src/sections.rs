@@ -2,7 +2,7 @@
 
 use crate::description::{
     about, Prints, Subcommand, END_OF_OPTIONS, EXAMPLES, NAME, OPTIONS, STATUSES, SUBCOMMANDS,
-    SUMMARY,
+    SUMMARY, WORDS,
 };
 
 /// A titled part of the description.
@@ -66,6 +66,7 @@ impl Subcommand {
         let call = match &self.prints {
             Prints::Table(_) => self.name.into(),
             Prints::Texts(inputs) => format!("{} {}", self.name, inputs.operands),
+            Prints::Words(_) => format!("{} {WORDS}", self.name),
         };
         (call, self.says.into())
     }

@@ -1,4 +1,4 @@
-//! Where a plan or a list comes from, and its bytes.
+//! Where a plan, a list or a map comes from, and its bytes.
 
 use crate::descriptors::Descriptors;
 use crate::failure::Failure;

@@ -1,37 +1,47 @@
-//! The texts of plans, one after another, and of a list.
+//! The texts of plans, one after another, of a list, and a map's picture.
 
 use crate::description::Inputs;
 use crate::descriptors::Descriptors;
 use crate::failure::{Failure, DONE, REFUSED};
 use crate::source::Source;
-use shabgozim::{inspection, read_list, PlanRefusal, State, MOST_PLAN_BYTES};
+use shabgozim::{inspection, read_list, PixelMap, PlanRefusal, State, MOST_PLAN_BYTES};
 use std::ffi::c_int;
 
-/// The text of one input, and the exit status when it is printed.
+/// The text or picture of one input, and the exit status when it is printed.
 pub struct Text {
-    text: String,
-    status: c_int,
+    pub bytes: Vec<u8>,
+    pub status: c_int,
 }
 
 /// What is to be printed, the exit status then, and why it is not more.
 pub struct Texts {
-    pub text: String,
+    pub bytes: Vec<u8>,
     pub status: c_int,
     pub failure: Option<Failure>,
 }
 
 impl Texts {
-    pub fn of(text: String) -> Texts {
+    pub fn of(text: Text) -> Texts {
         Texts {
-            text,
-            status: DONE,
+            bytes: text.bytes,
+            status: text.status,
             failure: None,
         }
     }
 
     fn add(&mut self, next: Text) {
-        self.text += &next.text;
+        self.bytes.extend(next.bytes);
         self.status = self.status.max(next.status);
+    }
+}
+
+impl Text {
+    /// What is printed with status 0.
+    pub fn done(bytes: impl Into<Vec<u8>>) -> Text {
+        Text {
+            bytes: bytes.into(),
+            status: DONE,
+        }
     }
 }
 
@@ -39,7 +49,7 @@ impl Texts {
 /// failure ends them.
 pub fn of_all(inputs: &Inputs, sources: &[Source], descriptors: &Descriptors) -> Texts {
     let mut head = State::power_on();
-    let mut done = Texts::of(String::new());
+    let mut done = Texts::of(Text::done([]));
     for source in sources {
         match of_one(inputs, source, descriptors, &mut head) {
             Ok(text) => done.add(text),
@@ -72,8 +82,7 @@ pub fn planned(
         return Err("input too long".into());
     }
     let text = text(plan).map_err(|refusal| refusal.in_words(plan))?;
-    let status = DONE;
-    Ok(Text { text, status })
+    Ok(Text::done(text))
 }
 
 /// The inspection of a list.
@@ -86,6 +95,12 @@ pub fn inspected(list: &[u8]) -> Result<Text, String> {
         0 => DONE,
         _ => REFUSED,
     };
-    let text = inspected.text;
-    Ok(Text { text, status })
+    let bytes = inspected.text.into();
+    Ok(Text { bytes, status })
+}
+
+/// The picture of a pixel map.
+pub fn pictured(map: &[u8]) -> Result<Text, String> {
+    let map = PixelMap::from_bytes(map).map_err(|refusal| refusal.in_words())?;
+    Ok(Text::done(map.picture()))
 }

@@ -1,14 +1,17 @@
 //! The stored texts of the examples: `NAME.report` is that of `NAME.plan`, or of
 //! the plans that the one line of `NAME.plans` names; `NAME.inspection` that of
-//! `NAME.list`, or the refusal in words. The table of upper bytes is stored with
-//! the program `upper_bytes`.
+//! `NAME.list`, or the refusal in words; `NAME.pbm` is the picture of `NAME.map`,
+//! and `NAME.refusal` its refusal in words. The table of upper bytes is stored
+//! with the program `upper_bytes`.
 
 use std::fs;
 use std::path::{Path, PathBuf};
 use std::process::{Command, Output};
+use std::slice;
 
 const PLANS: &str = concat!(env!("CARGO_MANIFEST_DIR"), "/../../examples/plans");
 const LISTS: &str = concat!(env!("CARGO_MANIFEST_DIR"), "/../../examples/lists");
+const MAPS: &str = concat!(env!("CARGO_MANIFEST_DIR"), "/../../examples/maps");
 const TABLE: &str = concat!(
     env!("CARGO_MANIFEST_DIR"),
     "/../../crates/upper_bytes/stdout"
@@ -17,6 +20,7 @@ const README: &str = concat!(env!("CARGO_MANIFEST_DIR"), "/../../README.md");
 const MOST_COLUMNS: usize = 100;
 const LEAST_REPORTS: usize = 4;
 const LEAST_INSPECTIONS: usize = 14;
+const LEAST_MAPS: usize = 3;
 /// What the last line of a sound list's inspection says.
 const NOT_FOUND: [&str; 3] = [
     ", ignored 0,",
@@ -41,10 +45,8 @@ fn inspections() {
     let inspections = stored(LISTS, "inspection");
     for inspection in &inspections {
         let text = fs::read_to_string(inspection).expect("an inspection is text");
-        let list = inspection.with_extension("list");
-        let name = list.file_name().and_then(|name| name.to_str());
-        let name = name.expect("the name of a list");
-        let ran = run(LISTS, "inspect", &[name.into()]);
+        let name = name(&inspection.with_extension("list"));
+        let ran = run(LISTS, "inspect", slice::from_ref(&name));
         match text.starts_with("refused ") {
             true => {
                 let told = format!("shabgozim: {name}: {text}");
@@ -56,6 +58,24 @@ fn inspections() {
     }
     let count = inspections.len();
     assert!(count >= LEAST_INSPECTIONS, "{count} inspections");
+}
+
+#[test]
+fn pictures() {
+    let maps = stored(MAPS, "map");
+    for map in &maps {
+        let name = name(map);
+        let ran = run(MAPS, "pixel-map", slice::from_ref(&name));
+        match fs::read_to_string(map.with_extension("refusal")) {
+            Ok(refusal) => expect(map, ran, 1, "", &format!("shabgozim: {name}: {refusal}")),
+            Err(_) => {
+                let picture = fs::read(map.with_extension("pbm")).expect("a map has its picture");
+                assert!(ran.status.success() && ran.stderr.is_empty(), "{name}");
+                assert!(ran.stdout == picture, "{name}");
+            }
+        }
+    }
+    assert!(maps.len() >= LEAST_MAPS, "{} maps", maps.len());
 }
 
 #[test]
@@ -95,6 +115,12 @@ fn stored(folder: &str, extension: &str) -> Vec<PathBuf> {
     let paths = entries.map(|entry| entry.expect("an entry").path());
     let has_extension = |path: &PathBuf| path.extension().is_some_and(|found| found == extension);
     paths.filter(has_extension).collect()
+}
+
+/// The name of a file in its folder.
+fn name(path: &Path) -> String {
+    let name = path.file_name().and_then(|name| name.to_str());
+    name.expect("a name").into()
 }
 
 fn run(folder: &str, subcommand: &str, names: &[String]) -> Output {

@@ -16,12 +16,21 @@ fn folder() -> Folder {
         .with("bad.plan", TOO_SHORT)
         .with("my.list", LISTED.as_bytes())
         .with("lost.list", LOST)
+        .with("my.map", map().bytes())
 }
 
 #[test]
 fn a_closed_input() {
     let folder = folder();
-    for subcommand in ["list", "list -", "report", "report -", "inspect"] {
+    for subcommand in [
+        "list",
+        "list -",
+        "report",
+        "report -",
+        "inspect",
+        "pixel-map",
+        "pixel-map -",
+    ] {
         let script = format!("\"$0\" {subcommand} <&-");
         expect(folder.shell(&script), 2, "", INPUT_CLOSED);
     }
@@ -31,6 +40,9 @@ fn a_closed_input() {
     expect(folder.shell("\"$0\" list good.plan <&-"), 0, LISTED, "");
     let table = upper_bytes();
     expect(folder.shell("\"$0\" upper-bytes <&-"), 0, &table, "");
+    let requests = folder.run(&["requests", "4401"], b"").stdout;
+    let with_closed_input = folder.shell("\"$0\" requests 4401 <&-");
+    expect_bytes(with_closed_input, 0, &requests, "");
     // An input that is open for writing alone cannot be read either.
     expect(folder.shell("\"$0\" list 0>&1"), 2, "", INPUT_CLOSED);
 }
@@ -44,6 +56,9 @@ fn a_closed_output() {
         "inspect my.list",
         "inspect lost.list",
         "upper-bytes",
+        "pixel-map my.map",
+        "requests 4401",
+        "requests FFFF",
         "--help",
         "--man",
         "-V",
@@ -87,6 +102,9 @@ fn a_full_output() {
         "inspect my.list",
         "inspect lost.list",
         "upper-bytes",
+        "pixel-map my.map",
+        "requests 4401",
+        "requests FFFF",
         "--help",
         "--man",
         "-V",
@@ -125,6 +143,8 @@ fn a_pipe_without_a_reader() {
         &["report", "good.plan"],
         &["inspect", "lost.list"],
         &["upper-bytes"],
+        &["pixel-map", "my.map"],
+        &["requests", "FFFF"],
         &["-h"],
     ] {
         let (reader, writer) = io::pipe().expect("a pipe can be made");

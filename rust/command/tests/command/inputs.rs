@@ -13,6 +13,7 @@ fn a_missing_file() {
     let told = "shabgozim: none: No such file or directory\n";
     expect(folder.run(&["list", "none"], GOOD), 2, "", told);
     expect(folder.run(&["inspect", "none"], LOST), 2, "", told);
+    expect(folder.run(&["pixel-map", "none"], b""), 2, "", told);
     let arguments = ["report", "p.plan", "none", "p.plan"];
     expect(folder.run(&arguments, b""), 2, &reports(&[GOOD]), told);
     let no_name = "shabgozim: : No such file or directory\n";
@@ -28,6 +29,7 @@ fn a_directory() {
     expect(folder.run(&["list", "."], GOOD), 2, "", told);
     expect(folder.run(&["report", "."], GOOD), 2, "", told);
     expect(folder.run(&["inspect", "."], GOOD), 2, "", told);
+    expect(folder.run(&["pixel-map", "."], GOOD), 2, "", told);
     let told = "shabgozim: standard input: Is a directory\n";
     expect(folder.shell("\"$0\" list < ."), 2, "", told);
 }
@@ -97,6 +99,8 @@ fn an_endless_input() {
     let folder = Folder::new();
     let told = "shabgozim: /dev/zero: refused 96: more than 8,192 bytes (line 1)\n";
     expect(folder.run(&["inspect", "/dev/zero"], b""), 1, "", told);
+    let told = "shabgozim: /dev/zero: refused 41: a pixel map has 14,783 bytes\n";
+    expect(folder.run(&["pixel-map", "/dev/zero"], b""), 1, "", told);
     for subcommand in ["list", "report"] {
         let told = "shabgozim: /dev/zero: input too long\n";
         expect(folder.run(&[subcommand, "/dev/zero"], b""), 1, "", told);

@@ -4,7 +4,9 @@
 mod descriptors;
 mod inputs;
 mod lists;
+mod maps;
 mod pages;
 mod plans;
+mod requests;
 mod run;
 mod usage;

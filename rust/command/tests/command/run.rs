@@ -1,6 +1,6 @@
 //! Runs the program, and says what is expected of it.
 
-use shabgozim::{inspection, listing, read_list, State};
+use shabgozim::{inspection, listing, read_list, PixelMap, State};
 use std::ffi::OsStr;
 use std::fs;
 use std::io::Write;
@@ -85,6 +85,13 @@ pub fn expect(ran: Output, status: i32, output: &str, errors: &str) {
     assert_eq!(found, (Some(status), output.into(), errors.into()));
 }
 
+/// The same for an output that is no text.
+pub fn expect_bytes(ran: Output, status: i32, output: &[u8], errors: &str) {
+    let told = String::from_utf8(ran.stderr).expect("text");
+    assert_eq!((ran.status.code(), told.as_str()), (Some(status), errors));
+    assert!(ran.stdout == output, "{} bytes", ran.stdout.len());
+}
+
 /// The message about a plan that the library refuses.
 pub fn refusal(name: &str, plan: &[u8]) -> String {
     let refusal = listing(&State::power_on(), plan).expect_err("a refused plan");
@@ -95,6 +102,19 @@ pub fn refusal(name: &str, plan: &[u8]) -> String {
 pub fn list_refusal(name: &str, list: &[u8]) -> String {
     let refusal = read_list(list).expect_err("a refused list");
     format!("shabgozim: {name}: {}\n", refusal.in_words())
+}
+
+/// The message about a pixel map that the library refuses.
+pub fn map_refusal(name: &str, map: &[u8]) -> String {
+    let refusal = PixelMap::from_bytes(map).expect_err("a refused map");
+    format!("shabgozim: {name}: {}\n", refusal.in_words())
+}
+
+/// A map with every other pixel lighted.
+pub fn map() -> PixelMap {
+    let mut bytes = vec![0xAA; PixelMap::BYTES];
+    bytes[PixelMap::BYTES - 1] = 0xA0;
+    PixelMap::from_bytes(&bytes).expect("a map")
 }
 
 /// The library's inspection of this list.

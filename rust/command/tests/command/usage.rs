@@ -6,6 +6,8 @@ const USAGE: &str = "usage: shabgozim list [PLAN]
        shabgozim report [PLAN...]
        shabgozim inspect [LIST]
        shabgozim upper-bytes
+       shabgozim pixel-map [MAP]
+       shabgozim requests WORD...
        shabgozim --help | --version | --man
 ";
 
@@ -41,4 +43,23 @@ fn wrong_arguments_give_the_usage() {
     wrong(&["upper-bytes", "a"], "a: one name too many");
     wrong(&["upper-bytes", "-"], "standard input: one name too many");
     wrong(&["upper_bytes"], "upper_bytes: unknown subcommand");
+    wrong(&["pixel-map", "a", "b"], "b: one name too many");
+    wrong(&["pixel_map"], "pixel_map: unknown subcommand");
+}
+
+#[test]
+fn what_is_no_word_gives_the_usage() {
+    wrong(&["requests"], "word: missing");
+    wrong(&["requests", "--"], "word: missing");
+    let no_words = ["", "-", "440", "04401", "44 1", "+440", "44G1", "0x44"];
+    // Four bytes, but three characters.
+    for argument in no_words.into_iter().chain(["\u{664}12"]) {
+        let told = format!("{argument}: not a word of four hexadecimal digits");
+        wrong(&["requests", argument], &told);
+        // Nothing is printed of the words beside it.
+        wrong(&["requests", "4401", argument, "4401"], &told);
+    }
+    let told = "-440: not a word of four hexadecimal digits";
+    wrong(&["requests", "--", "-440"], told);
+    wrong(&["requests", "-440"], "-440: unknown option");
 }
