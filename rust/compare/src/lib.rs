@@ -9,6 +9,7 @@
 //! | [`reduce`] | a failing case made short |
 //! | [`parts`] | the list of all comparisons |
 //! | [`command`] | the command line |
+//! | [`pem_h`] | the comparisons of the high-resolution head |
 //! | the others | the comparisons |
 
 pub mod blocks;
@@ -28,6 +29,7 @@ pub mod listed_plans;
 pub mod lists;
 pub mod orders;
 pub mod parts;
+pub mod pem_h;
 pub mod plan_answer;
 mod plan_case;
 pub mod plans;

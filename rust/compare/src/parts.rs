@@ -4,7 +4,7 @@ use crate::random::Random;
 use crate::reduce::Counted;
 use crate::sides::Sides;
 use crate::{blocks, codec, demand3, inspections, limits, list_limits, listed_plans, lists, plans};
-use crate::{refusals, reports, steps, text_lists, unpacked, upper_bytes};
+use crate::{pem_h, refusals, reports, steps, text_lists, unpacked, upper_bytes};
 
 pub type Compare = fn(&Sides, &mut Random, u32) -> Counted;
 
@@ -48,4 +48,10 @@ pub const PARTS: &[Part] = &[
     part("blocks read", blocks::read),
     part("block lengths", blocks::lengths),
     part("unpacked answers", unpacked::answers),
+    part("PEM-H decode", pem_h::codec::decode_all),
+    part("PEM-H encode", pem_h::codec::encode_all),
+    part("pixel maps", pem_h::counts::counts),
+    part("pixel map pictures", pem_h::pictures::pictures),
+    part("PEM-H refusals", pem_h::refusals::in_words),
+    part("PEM-H unpacked answers", pem_h::unpacked::answers),
 ];

@@ -41,6 +41,12 @@ pub struct Functions {
     pub write_ccd: fn(&[u16], Shown, &[u16], &mut [u16]) -> u32,
     pub read_ir: fn(&[u16], &mut [u16]) -> u32,
     pub read_ccd: fn(&[u16], &mut [u16]) -> u32,
+    pub h_lighted: fn(&[u8]) -> u32,
+    pub h_readout: fn(&[u8]) -> u32,
+    pub h_decode: fn(u16) -> u32,
+    pub h_encode: fn(u8, u16) -> u32,
+    pub h_picture: fn(&[u8], &mut [u8]) -> u64,
+    pub h_refusal: fn(u8, &mut [u8]) -> u32,
 }
 
 /// The two sides of a comparison.
@@ -75,6 +81,12 @@ impl Functions {
             write_ccd: S::write_ccd,
             read_ir: S::read_ir,
             read_ccd: S::read_ccd,
+            h_lighted: S::h_lighted,
+            h_readout: S::h_readout,
+            h_decode: S::h_decode,
+            h_encode: S::h_encode,
+            h_picture: S::h_picture,
+            h_refusal: S::h_refusal,
         }
     }
 }

@@ -86,4 +86,28 @@ impl Side for Library {
     fn read_ccd(block: &[u16], meaning: &mut [u16]) -> u32 {
         raw::read_ccd(block, meaning)
     }
+
+    fn h_lighted(map: &[u8]) -> u32 {
+        raw::h_lighted(map)
+    }
+
+    fn h_readout(map: &[u8]) -> u32 {
+        raw::h_readout(map)
+    }
+
+    fn h_decode(word: u16) -> u32 {
+        raw::h_decode(word)
+    }
+
+    fn h_encode(request: u8, value: u16) -> u32 {
+        raw::h_encode(request, value)
+    }
+
+    fn h_picture(map: &[u8], text: &mut [u8]) -> u64 {
+        raw::h_picture(map, text)
+    }
+
+    fn h_refusal(number: u8, text: &mut [u8]) -> u32 {
+        raw::h_refusal(number, text)
+    }
 }

@@ -5,6 +5,7 @@ mod functions;
 mod library;
 mod paper;
 mod paper_blocks;
+mod paper_h;
 mod paper_texts;
 mod typed;
 
@@ -38,6 +39,13 @@ pub trait Side {
     fn write_ccd(state: &[u16], shown: Shown, readings: &[u16], block: &mut [u16]) -> u32;
     fn read_ir(block: &[u16], meaning: &mut [u16]) -> u32;
     fn read_ccd(block: &[u16], meaning: &mut [u16]) -> u32;
+
+    fn h_lighted(map: &[u8]) -> u32;
+    fn h_readout(map: &[u8]) -> u32;
+    fn h_decode(word: u16) -> u32;
+    fn h_encode(request: u8, value: u16) -> u32;
+    fn h_picture(map: &[u8], text: &mut [u8]) -> u64;
+    fn h_refusal(number: u8, text: &mut [u8]) -> u32;
 }
 
 /// What a writer is given besides state and readings.

@@ -3,7 +3,7 @@
 //! The `paper_` functions are never inlined and keep their names, so that
 //! instruction counts can be taken of each.
 
-use super::{paper_blocks as blocks, paper_texts as texts, Shown, Side};
+use super::{paper_blocks as blocks, paper_h as h, paper_texts as texts, Shown, Side};
 use paper::state::STATE_LENGTH;
 use paper::{Decoded, ErrorFlags, State, Task, Ticked};
 
@@ -92,6 +92,30 @@ impl Side for Paper {
 
     fn read_ccd(block: &[u16], meaning: &mut [u16]) -> u32 {
         blocks::paper_read_ccd(block, meaning)
+    }
+
+    fn h_lighted(map: &[u8]) -> u32 {
+        h::paper_h_lighted(map)
+    }
+
+    fn h_readout(map: &[u8]) -> u32 {
+        h::paper_h_readout(map)
+    }
+
+    fn h_decode(word: u16) -> u32 {
+        h::paper_h_decode(word)
+    }
+
+    fn h_encode(request: u8, value: u16) -> u32 {
+        h::paper_h_encode(request, value)
+    }
+
+    fn h_picture(map: &[u8], text: &mut [u8]) -> u64 {
+        h::picture(map, text)
+    }
+
+    fn h_refusal(number: u8, text: &mut [u8]) -> u32 {
+        h::refusal(number, text)
     }
 }
 

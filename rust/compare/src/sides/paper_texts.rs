@@ -100,7 +100,7 @@ pub fn upper_bytes(text: &mut [u8]) -> u64 {
 
 /// Writes a line and its newline; gives their length, or 0 where there is no
 /// line or no room for it.
-fn store_line(line: String, text: &mut [u8]) -> u32 {
+pub fn store_line(line: String, text: &mut [u8]) -> u32 {
     match line {
         none if none.is_empty() => 0,
         line if text.len() <= line.len() => 0,

@@ -2,6 +2,7 @@
 //! are compared with.
 
 use paper::blocks::{CCD_READINGS, IR_READINGS};
+use paper::pem_h;
 use paper::{BlockRefusal, CcdMeaning, ErrorFlags, IrCallerBits, IrMeaning};
 use paper::{Inspection, Outcome, Refusal, State, TextList, TextRefusal, Ticked, Translated};
 
@@ -19,6 +20,9 @@ pub struct Typed {
     pub write_ccd: WriteCcd,
     pub read_ir: fn(&[u16]) -> Result<IrMeaning, BlockRefusal>,
     pub read_ccd: fn(&[u16]) -> Result<CcdMeaning, BlockRefusal>,
+    pub h_decode: fn(u16) -> Result<pem_h::Read, pem_h::Refusal>,
+    pub h_encode: fn(u8, u16) -> Result<u16, pem_h::Refusal>,
+    pub h_map: fn(&[u8]) -> Result<pem_h::PixelMap, pem_h::Refusal>,
 }
 
 pub type WriteIr =
@@ -39,5 +43,8 @@ impl Typed {
         write_ccd: paper::write_ccd,
         read_ir: paper::read_ir,
         read_ccd: paper::read_ccd,
+        h_decode: pem_h::decode,
+        h_encode: pem_h::encode,
+        h_map: pem_h::PixelMap::of,
     };
 }

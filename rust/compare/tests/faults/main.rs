@@ -5,6 +5,8 @@ mod blocks;
 mod fault;
 mod inspections;
 mod lists;
+mod pem_h;
+mod pixel_maps;
 mod plans;
 mod reports;
 mod text_lists;
@@ -49,6 +51,16 @@ fn faults_in_blocks_are_found() {
 }
 
 #[test]
+fn faults_in_requests_are_found() {
+    pem_h::FAULTS.iter().for_each(Fault::must_be_found);
+}
+
+#[test]
+fn faults_in_pixel_maps_are_found() {
+    pixel_maps::FAULTS.iter().for_each(Fault::must_be_found);
+}
+
+#[test]
 #[should_panic(expected = "not found in 65536 comparisons")]
 fn without_a_fault_nothing_is_found() {
     let no_fault = Fault {
@@ -68,6 +80,8 @@ fn every_part_has_a_fault_to_find() {
         text_lists::FAULTS,
         inspections::FAULTS,
         blocks::FAULTS,
+        pem_h::FAULTS,
+        pixel_maps::FAULTS,
     ]
     .concat();
     for part in PARTS {
