@@ -1,11 +1,12 @@
 //! The workloads, each ready to run on either side.
 
 use crate::plain_list::plain_list;
-use crate::workloads::{DecodedWords, Decoder, GivenWords, Lists, MixedRun, ReadBlocks};
+use crate::plain_map::{plain_h_lighted, plain_h_readout};
+use crate::workloads::{DecodedWords, Decoder, GivenWords, Lists, Maps, MixedRun, ReadBlocks};
 use crate::workloads::{Ticks, Translations, Workload, WrittenBlocks};
 use compare::blocks::Block;
 use compare::sides::{Library, Paper, Side};
-use shabgozim::MOST_WORDS;
+use shabgozim::{raw, MOST_WORDS};
 
 /// One of the two implementations.
 #[derive(Clone, Copy, PartialEq, Eq)]
@@ -62,6 +63,18 @@ impl Row {
         }
     }
 
+    /// Pixel maps, against plain Rust.
+    const fn maps(
+        name: &'static str,
+        functions: &'static [&'static str],
+        prepare: fn() -> Prepared,
+    ) -> Row {
+        Row {
+            paper_prefix: "plain_",
+            ..Row::new(name, functions, prepare)
+        }
+    }
+
     /// What the names of a side's functions begin with.
     pub fn prefix(&self, which: Which) -> &'static str {
         match which {
@@ -95,6 +108,18 @@ impl Prepared {
             pass: Box::new(move |which| match which {
                 Which::Library => lists.pass(Library::list),
                 Which::Paper => lists.pass(plain_list),
+            }),
+        }
+    }
+
+    /// A measure of pixel maps, by the library and by plain Rust.
+    fn of_maps(library: fn(&[u8]) -> u32, plain: fn(&[u8]) -> u32) -> Prepared {
+        let maps = Maps::new();
+        Prepared {
+            calls: maps.calls(),
+            pass: Box::new(move |which| match which {
+                Which::Library => maps.pass(library),
+                Which::Paper => maps.pass(plain),
             }),
         }
     }
@@ -162,5 +187,11 @@ pub const ROWS: &[Row] = &[
     }),
     Row::new("read CCD block", &["read_ccd"], || {
         Prepared::of(ReadBlocks::new(Block::Ccd))
+    }),
+    Row::maps("lighted pixels of a map", &["h_lighted"], || {
+        Prepared::of_maps(raw::h_lighted, plain_h_lighted)
+    }),
+    Row::maps("readout time of a map", &["h_readout"], || {
+        Prepared::of_maps(raw::h_readout, plain_h_readout)
     }),
 ];

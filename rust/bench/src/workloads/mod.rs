@@ -3,12 +3,14 @@
 mod blocks;
 mod head;
 mod lists;
+mod maps;
 mod plans;
 mod words;
 
 pub use blocks::{ReadBlocks, WrittenBlocks};
 pub use head::{GivenWords, MixedRun, Ticks};
 pub use lists::Lists;
+pub use maps::Maps;
 pub use plans::Translations;
 pub use words::{DecodedWords, Decoder};
 
