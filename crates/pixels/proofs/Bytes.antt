@@ -34,7 +34,7 @@ byte-ones b h =
     ∙ ap (λ (x : ℕ). b / 64 % 2 + x) (step b 128 ∙ ap (λ (x : ℕ). b / 128 % 2 + ones x) none ∙ no-more)))))))
 
 -- a test of a bit counts as the bit
-digit : (x : ℕ) → cond (eqb (x % 2) 1) 1 0 ≡ x % 2
+pub digit : (x : ℕ) → cond (eqb (x % 2) 1) 1 0 ≡ x % 2
 digit x = go (ℕ-discrete (x % 2) 1)
   where
     go : Dec (x % 2 ≡ 1) → cond (eqb (x % 2) 1) 1 0 ≡ x % 2
