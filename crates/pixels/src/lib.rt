@@ -11,14 +11,12 @@ pub const ROWS: usize = 270;
 
 pub const COLUMNS: usize = 438;
 
-const PIXELS: u32 = 118_260;
-
-const LINES: u32 = 270;
+const PIXELS: u32 = (ROWS * COLUMNS) as u32;
 
 // How many bytes a map has, and the last of them, whose lower half is spare.
 pub const BYTES: usize = 14_783;
 
-const LAST: usize = 14_782;
+const LAST: usize = BYTES - 1;
 
 // What is measured of a map, or why it is refused.
 pub enum Measured {
@@ -84,7 +82,7 @@ fn readout_time(lit: u32) -> u32
     requires { ⌜ lit ≤ pixels ⌝ }
     ensures { λ r. ⌜ r ≡ readoutTime lit ⌝ }
 {
-    10 * lit + (PIXELS - lit) + 40 * LINES
+    10 * lit + (PIXELS - lit) + 40 * ROWS as u32
 }
 
 // The time of a map's readout, in microseconds.

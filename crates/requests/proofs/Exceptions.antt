@@ -11,13 +11,13 @@ use Rattle.words.proofs.Tests.{and-left, and-right, passes}
 use Rattle.requests.specs.Parameters.{composed, modeFields, lampFields, coverFields}
 use Rattle.requests.specs.Requests.{Row, rows, requests, rowOf, allows}
 use Rattle.requests.specs.Codec.{wordOf}
-use Rattle.requests.specs.Shared.{Exception, exceptions, areOrdered, listedFor, isListed, shareWord}
+use Rattle.requests.specs.Shared.{Exception, exceptions, risesFrom, listedFor, isListed, shareWord}
 use Rattle.requests.proofs.Every.{every, every-at}
 use Rattle.requests.proofs.Encoding.{value-small}
 
-pub exceptions-ordered : areOrdered exceptions ≡ true
-unfolding areOrdered exceptions
-exceptions-ordered = refl
+pub exceptions-rise : risesFrom 0 exceptions ≡ true
+unfolding risesFrom exceptions
+exceptions-rise = refl
 
 both-ways : (a b : Bool) → (a ≡ true → b ≡ true) → (b ≡ true → a ≡ true) → a ≡ b
 both-ways true b f g = sym (f refl)

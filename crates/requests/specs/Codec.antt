@@ -68,7 +68,7 @@ findingNumber w = cond (not (isKnown rows (codeIn w))) 43 (cond (isNone (having 
 unfoldable pub encodingNumber : ℕ → ℕ → ℕ
 encodingNumber k v = cond (not (ltb k requests)) 43 (cond (not (allows (rowOf k) v)) 44 0)
 
--- The number of a meaning: that of the request or, above 128, that of the first of those that share the word; 0 where there is none.
+-- The number of a meaning: that of the request; of several that share the word, 128 and that of the first; 0 where there is none.
 abbrev pub sharedMark : ℕ
 sharedMark = 128
 

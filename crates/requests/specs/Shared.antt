@@ -1,6 +1,6 @@
 -- Document 02, request P5: the pairs of requests that have words in common, and for which values.
 -- Assumes nothing.
-use Prim.Native.Nat.{ℕ}
+use Prim.Native.Nat.{ℕ, suc, _+_, _*_}
 use mathlib.Core.Bool.{Bool, true, false, cond, _&&_, _||_}
 use mathlib.Core.List.{List, [], _∷_}
 use lib.Dec.{eqb, leb, ltb}
@@ -26,10 +26,12 @@ exceptions =
     ∷ exception hinitPixMapUpld hinitPixMapDnld 0 0
     ∷ []
 
--- Each names two requests, the first with the lower number.
-unfoldable pub areOrdered : List Exception → Bool
-areOrdered [] = true
-areOrdered (e ∷ es) = ltb (e .one) (e .other) && ltb (e .other) requests && areOrdered es
+-- Each names two requests, the first with the lower number, and the pairs rise: none is listed twice.
+unfoldable pub risesFrom : ℕ → List Exception → Bool
+risesFrom n [] = true
+risesFrom n (e ∷ es) =
+    let pair = e .one * requests + e .other in
+    leb n pair && ltb (e .one) (e .other) && ltb (e .other) requests && risesFrom (suc pair) es
 
 -- What is listed for two requests; where nothing is, no value.
 unfoldable pub listedFor : List Exception → ℕ → ℕ → Exception
