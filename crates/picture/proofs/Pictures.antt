@@ -73,8 +73,8 @@ module _ (map : List ℕ) (a : Measured) (counted : a ≡ lightedOf map) {lit : 
   unfolding pictureText
   fits = rw (is, counted, is', timed) (picture-fits map)
 
-  pub picture-front : (old : List ℕ) → length old ≡ 16384 → {p : ℕ} {m : List ℕ} → Written old 0 (headerText lit time) p m → {q : ℕ} {new : List ℕ} → Written m p (rasterText map) q new
-      → Front old (pictureText map) q new
+  pub picture-front : (old : List ℕ) → length old ≡ 16384 → {p : ℕ} {m : List ℕ} → Written old 0 (headerText lit time) p m
+      → {q : ℕ} {new : List ℕ} → Written m p (rasterText map) q new → Front old (pictureText map) q new
   unfolding pictureText
   picture-front old room header raster =
       rw (ap measuredValue (sym counted), ap measuredValue (sym timed), ← is, ← is')

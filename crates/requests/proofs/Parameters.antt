@@ -51,4 +51,5 @@ unfolding composed valuesIn coverFields
 cover-fields v h =
     let few : v / 8 < 128 = omega arith in
     rw (mod-mod (v / 1) 2, mod-mod (v / 2) 2, mod-mod (v / 4) 2, mod-mod (v / 8) 128, div-one v, mod-eq-of-lt few)
-    (whole (v % 2) (v / 2 % 2) (v / 4 % 2) (v / 8) (v % 4) (v % 8) v (div-add-mod' v 8) (mod-mul v {m = 2} {c = 4} (lit< tt) (lit< tt)) (mod-mul v {m = 2} {c = 2} (lit< tt) (lit< tt)))
+    (whole (v % 2) (v / 2 % 2) (v / 4 % 2) (v / 8) (v % 4) (v % 8) v (div-add-mod' v 8) (mod-mul v {m = 2} {c = 4} (lit< tt) (lit< tt))
+    (mod-mul v {m = 2} {c = 2} (lit< tt) (lit< tt)))

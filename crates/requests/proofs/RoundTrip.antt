@@ -38,7 +38,8 @@ module _ (k v : ℕ) (known : k < requests) (fine : allows (rowOf k) v ≡ true)
   those : areThose (havingFrom rows 0 (rowOf k .code) v) k v ≡ true
   unfolding allows
   those =
-      let few : v < suc (rowOf k .most) = let below = leb-true v (rowOf k .most) (and-right (leb (rowOf k .least) v) (leb v (rowOf k .most)) fine) in omega arith in
+      let below = leb-true v (rowOf k .most) (and-right (leb (rowOf k .least) v) (leb v (rowOf k .most)) fine) in
+      let few : v < suc (rowOf k .most) = omega arith in
       let values = every-at (λ k. every (readsBack k) (suc (rowOf k .most))) requests all-read k known in
       rw fine at (every-at (readsBack k) (suc (rowOf k .most)) (passes (every (readsBack k) (suc (rowOf k .most))) values) v few)
 
@@ -175,5 +176,6 @@ shared-having w f v e = go (having w) refl
         let value : valueIn w ≡ v = cc in
         (rw (p, eq-eqb j f request), value)
 
-pub shared-written : (w f v : ℕ) → decodeOf w ≡ Shared f v → (isAmong f (having w) ≡ true) × ((k : ℕ) → isAmong k (having w) ≡ true → encodeOf k v ≡ encoded.Made w)
+pub shared-written : (w f v : ℕ) → decodeOf w ≡ Shared f v
+    → (isAmong f (having w) ≡ true) × ((k : ℕ) → isAmong k (having w) ≡ true → encodeOf k v ≡ encoded.Made w)
 shared-written w f v e = let h = shared-having w f v e in (h .0, λ k a. rw (h .1) at (read-written w k a))
