@@ -1,6 +1,7 @@
 //! The high-resolution head, PEM-H: its requests, its pixel map, and the map
 //! as a picture. From section 4.2 of document 000 and document 02's request P5;
-//! the picture and the lines of refusals from their description.
+//! the picture, the lines of refusals, and the readings that docs/DECISIONS.md
+//! has of that request, from a description.
 //!
 //! | module | idea |
 //! |---|---|
