@@ -9,13 +9,13 @@ use native.Mathlib.Omega.{arith}
 use borrow.Author.Tests.{lt-leb, leb-true}
 use lib.Dec.{leb, eqb, lit<}
 use lib.ListN.{List·getD-eq-default}
-use Rattle.words.specs.Kinds.{rows, row, least, greatest, allowed, ccdDelay, cover, mostSteps, rowOf}
+use Rattle.words.specs.Kinds.{rows, row, noGroup, least, greatest, allowed, ccdDelay, cover, mostSteps, rowOf}
 use Rattle.words.proofs.Tests.{and-left, and-right}
 use Rattle.words.proofs.Tables.{Others, others-at}
 
-no-row : (k : ℕ) → 28 ≤ k → rowOf k ≡ row 1 0
+pub no-row : (k : ℕ) → 28 ≤ k → rowOf k ≡ row 1 0 noGroup
 unfolding rows
-no-row k h = List·getD-eq-default rows (row 1 0) h
+no-row k h = List·getD-eq-default rows (row 1 0 noGroup) h
 
 -- a number that is no kind allows nothing
 pub allowed-none : (k d : ℕ) → 28 ≤ k → false ≡ allowed k d

@@ -6,3 +6,4 @@ pub mod UpperByte
 pub mod Count
 pub mod Fields
 pub mod Names
+pub mod Grouping

@@ -1,4 +1,5 @@
 // The 28 command words of VIRTIS-M, to and from words (document 01, "The words").
+pub mod groups;
 pub mod kinds;
 pub mod upper_byte;
 
