@@ -1,0 +1,12 @@
+pub mod ByTick
+pub mod Entries
+pub mod Ticks
+pub mod Rests
+pub mod Sharing
+pub mod Stepping
+pub mod Walking
+pub mod Laying
+pub mod Answers
+pub mod Handing
+pub mod Interleaving
+pub mod Sorted

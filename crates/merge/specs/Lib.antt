@@ -1,0 +1,4 @@
+pub mod Merge
+pub mod Interleaved
+pub mod Answer
+pub mod ByPlaces
