@@ -7,3 +7,4 @@ pub mod Writing
 pub mod Reading
 pub mod Arrays
 pub mod PemH
+pub mod Merging

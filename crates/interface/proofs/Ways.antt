@@ -18,8 +18,11 @@ use Rattle.head.specs.declared.word.Answered.{Answered}
 use Rattle.head.specs.declared.tick.Ticked.{Ticked}
 use Rattle.head.specs.declared.list.Listed.{Listed}
 use Rattle.head.specs.Row.{places, numbersOf, stateOf}
+use Rattle.operators.specs.Passing.{passedOn, passingNumber}
+use Rattle.operators.specs.declared.PassedOn.{PassedOn}
 use Rattle.interface.specs.State.{wellFormed, valid}
 use Rattle.interface.specs.Stepping.{powerOnAnswer, powerOnState, rangeAnswer, wordAnswer, wordState, dueAnswer, tickAnswer, tickState, listAnswer, listState, listOutcomes}
+use Rattle.interface.specs.Operators.{passOnAnswer, passOnState}
 use Rattle.interface.proofs.RoundTrip.{well-formed-length}
 
 module _ (l : List ℕ) where
@@ -64,6 +67,10 @@ module _ (l : List ℕ) (i : Bool) (is : i ≡ wellFormed l) where
       unfolding tickAnswer
       tick-ill = rw ill own
 
+      pub pass-on-ill : (g w : ℕ) → r ≡ passOnAnswer l g w
+      unfolding passOnAnswer
+      pass-on-ill g w = rw ill own
+
     pub word-left : (w : ℕ) → l ≡ wordState l w
     unfolding wordState
     word-left w = rw ill
@@ -79,6 +86,10 @@ module _ (l : List ℕ) (i : Bool) (is : i ≡ wellFormed l) where
     pub tick-left : l ≡ tickState l
     unfolding tickState
     tick-left = rw ill
+
+    pub pass-on-left : (g w : ℕ) → l ≡ passOnState l g w
+    unfolding passOnState
+    pass-on-left g w = rw ill
 
   module _ (good : not i ≡ false) where
     well : wellFormed l ≡ true
@@ -106,6 +117,15 @@ module _ (l : List ℕ) (i : Bool) (is : i ≡ wellFormed l) where
         pub word-state : (after : List ℕ) → after ≡ numbersOf (a .head) → after ≡ wordState l w
         unfolding wordState
         word-state after own = rw (well, ← loaded, ← e) own
+
+      module _ (g w : ℕ) (p : PassedOn) (e : p ≡ passedOn h g w) where
+        pub pass-on-answer : (r : ℕ) → r ≡ passingNumber (p .passing) → r ≡ passOnAnswer l g w
+        unfolding passOnAnswer
+        pass-on-answer r own = rw (well, ← loaded, ← e) own
+
+        pub pass-on-state : (after : List ℕ) → after ≡ numbersOf (p .head) → after ≡ passOnState l g w
+        unfolding passOnState
+        pass-on-state after own = rw (well, ← loaded, ← e) own
 
       module _ (t : Ticked) (e : t ≡ tickOf h) where
         pub tick-answer : (r : ℕ) → r ≡ dueAnswer (t .due) → r ≡ tickAnswer l

@@ -4,3 +4,4 @@ pub mod Codec
 pub mod Plans
 pub mod Blocks
 pub mod PemH
+pub mod Operators

@@ -4,6 +4,7 @@ pub mod answers;
 pub mod pem_h;
 pub mod readings;
 pub mod state;
+pub mod two_operators;
 
 use blocks::ccd::CCD_READINGS;
 use blocks::ccd::CCD_WORDS;
