@@ -5,7 +5,7 @@ pub mod Rests
 pub mod Sharing
 pub mod Stepping
 pub mod Walking
-pub mod Laying
+pub mod Writing
 pub mod Answers
 pub mod Handing
 pub mod Interleaving
