@@ -101,6 +101,10 @@ x1At o = getD (o .end) 0 0
 differ : (f : Observation → ℕ) (o p : Observation) → eqb (f o) (f p) ≡ false → o ≡ p → ⊥
 differ f o p d e = false≢true (sym d ∙ eq-eqb (f o) (f p) (ap f e))
 
+-- the premise that is left out
+left-out : {A : Type 0} (n : ℕ) → (n ≡ n → ⊥) → A
+left-out n same = absurd (same refl)
+
 abbrev timeFlag : FlagBits
 timeFlag = record { irtime = 0; irword = 0; scan = 0; vistime = 1; visword = 0 }
 
@@ -135,121 +139,13 @@ unfolding observed seenFrom seen headAfter next between answerTo flagWordDue ccd
     kindOf kindFrom kinds rows least greatest allowed due.acquisition ccdShown visFlagWord visFlagFields composed
 needed =
     record {
-      registers =
-          record {
-            firstRanged = refl;
-            secondRanged = refl;
-            registers = λ same. absurd (same refl);
-            vistime = λ _. refl;
-            visword = λ _. refl;
-            task = λ _. refl;
-            given = λ _. refl;
-            busy = λ _. refl;
-            ends = λ _. refl;
-            told = differ x1At (observed powerOn []) (observed (headWith 1 noFlags noTask 0) []) refl;
-          };
-      vistime =
-          record {
-            firstRanged = refl;
-            secondRanged = refl;
-            registers = λ _. refl;
-            vistime = λ same. absurd (same refl);
-            visword = λ _. refl;
-            task = λ _. refl;
-            given = λ _. refl;
-            busy = λ _. refl;
-            ends = λ _. refl;
-            told = differ (wordAt 0) (observed (headWith 0 timeFlag acquisition 1) (quiet ∷ [])) (observed (acquiring 1) (quiet ∷ [])) refl;
-          };
-      visword =
-          record {
-            firstRanged = refl;
-            secondRanged = refl;
-            registers = λ _. refl;
-            vistime = λ _. refl;
-            visword = λ same. absurd (same refl);
-            task = λ _. refl;
-            given = λ _. refl;
-            busy = λ _. refl;
-            ends = λ _. refl;
-            told = differ (wordAt 0) (observed (headWith 0 wordFlag acquisition 1) (quiet ∷ [])) (observed (acquiring 1) (quiet ∷ [])) refl;
-          };
-      task =
-          record {
-            firstRanged = refl;
-            secondRanged = refl;
-            registers = λ _. refl;
-            vistime = λ _. refl;
-            visword = λ _. refl;
-            task = λ same. absurd (same refl);
-            given = λ _. refl;
-            busy = λ _. refl;
-            ends = λ _. refl;
-            told = differ (wordAt 0) (observed (headWith 0 noFlags housekeeping 1) (quiet ∷ [])) (observed (acquiring 1) (quiet ∷ [])) refl;
-          };
-      ccdWords =
-          record {
-            firstRanged = refl;
-            secondRanged = refl;
-            registers = λ _. refl;
-            vistime = λ _. refl;
-            visword = λ _. refl;
-            task = λ _. refl;
-            given = λ same. absurd (same refl);
-            busy = λ _. refl;
-            ends = λ _. refl;
-            told = differ x1At (observed powerOn (tick (byCcd 0x2805) false ∷ [])) (observed powerOn (quiet ∷ [])) refl;
-          };
-      controllerWords =
-          record {
-            firstRanged = refl;
-            secondRanged = refl;
-            registers = λ _. refl;
-            vistime = λ _. refl;
-            visword = λ _. refl;
-            task = λ _. refl;
-            given = λ same. absurd (same refl);
-            busy = λ _. refl;
-            ends = λ _. refl;
-            told = differ (wordAt 1) (observed (acquiring 2) (tick (byController 0xD801) false ∷ quiet ∷ [])) (observed (acquiring 2) (quiet ∷ quiet ∷ [])) refl;
-          };
-      visBits =
-          record {
-            firstRanged = refl;
-            secondRanged = refl;
-            registers = λ _. refl;
-            vistime = λ _. refl;
-            visword = λ _. refl;
-            task = λ _. refl;
-            given = λ same. absurd (same refl);
-            busy = λ _. refl;
-            ends = λ _. refl;
-            told = differ (wordAt 0) (observed (acquiring 1) (tick nothing true ∷ [])) (observed (acquiring 1) (quiet ∷ [])) refl;
-          };
-      busyTicks =
-          record {
-            firstRanged = refl;
-            secondRanged = refl;
-            registers = λ _. refl;
-            vistime = λ _. refl;
-            visword = λ _. refl;
-            task = λ _. refl;
-            given = λ _. refl;
-            busy = λ same. absurd (same refl);
-            ends = λ _. refl;
-            told = differ (wordAt 0) (observed (acquiring 1) (quiet ∷ quiet ∷ [])) (observed (acquiring 2) (quiet ∷ quiet ∷ [])) refl;
-          };
-      busyEnd =
-          record {
-            firstRanged = refl;
-            secondRanged = refl;
-            registers = λ _. refl;
-            vistime = λ _. refl;
-            visword = λ _. refl;
-            task = λ _. refl;
-            given = λ _. refl;
-            busy = λ _. refl;
-            ends = λ same. absurd (same refl);
-            told = differ (wordAt 0) (observed (acquiring 1) (quiet ∷ [])) (observed (acquiring 2) (quiet ∷ [])) refl;
-          };
+      registers = search (left-out, differ x1At);
+      vistime = search (left-out, differ (wordAt 0));
+      visword = search (left-out, differ (wordAt 0));
+      task = search (left-out, differ (wordAt 0));
+      ccdWords = search (left-out, differ x1At);
+      controllerWords = search (left-out, differ (wordAt 1));
+      visBits = search (left-out, differ (wordAt 0));
+      busyTicks = search (left-out, differ (wordAt 0));
+      busyEnd = search (left-out, differ (wordAt 0));
     }
