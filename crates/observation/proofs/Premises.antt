@@ -1,4 +1,5 @@
--- No premise of `unseen` is idle: for each, two runs that are alike in all but that one give the CCD operator different observations.
+-- No premise of `unseen` is idle: for each, two runs that are alike in all but that one give the CCD operator different observations. And
+-- they can be met by runs with different infrared words.
 -- Assumes nothing.
 use mathlib.Core.Path.{_≡_, refl, sym, ap, _∙_}
 use mathlib.Core.Bool.{Bool, true, false, false≢true}
@@ -25,9 +26,9 @@ use Rattle.status.specs.Status.{visFlagWord, visFlagFields, composed}
 use Rattle.blocks.specs.Ccd.{ccdShown}
 use Rattle.due.specs.Due as due
 use Rattle.operators.specs.Passing.{isOperator, inGroup, passes, passedOn}
-use Rattle.observation.specs.Run.{Given, nothing, byCcd, byController, Moment, between, next, headAfter}
+use Rattle.observation.specs.Run.{Given, nothing, byCcd, byInfrared, byController, Moment, between, next, headAfter}
 use Rattle.observation.specs.Observation.{ccdRegisters, answerTo, flagWordDue, Seen, seen, seenFrom, Observation, observed}
-use Rattle.observation.specs.Premises.{notInfrared, withoutInfrared, busyFrom}
+use Rattle.observation.specs.Premises.{notInfrared, withoutInfrared, busyFrom, Alike}
 
 -- the runs are alike in all premises but the nth, and are told apart
 pub record AllBut (n : ℕ) (s t : Head) (ms ns : List Moment) : Type 0 where
@@ -149,3 +150,13 @@ needed =
       busyTicks = search (left-out, differ (wordAt 0));
       busyEnd = search (left-out, differ (wordAt 0));
     }
+
+-- a housekeeping request, with and without infrared words before it and while the head is busy; a block is due in both runs
+pub met : Alike powerOn powerOn
+    (tick (byInfrared 0xF00A) false ∷ tick (byController 0x4000) false ∷ tick (byInfrared 0xD801) false ∷ quiet ∷ [])
+    (quiet ∷ tick (byController 0x4000) false ∷ quiet ∷ tick (byInfrared 0x9001) false ∷ [])
+unfolding observed seenFrom seen headAfter next between answerTo flagWordDue ccdRegisters withoutInfrared notInfrared busyFrom
+    passedOn passes isOperator inGroup groupOf answerOf onDecoded onWord outOfTurn after actOf outOfRangeFlags taskOf tickOf passed busyTicks
+    isBusy inRange allPass registerTests latchTests flagTests motionTests place begunTests workInRange lengthOf readoutOf decodeOf judged
+    kindOf kindFrom kinds rows least greatest allowed due.acquisition ccdShown visFlagWord visFlagFields composed
+met = search refl
