@@ -5,3 +5,4 @@ pub mod Reporting
 pub mod Wording
 pub mod Reading
 pub mod PemH
+pub mod TwoOperators

@@ -1,10 +1,11 @@
-// The texts of the C interface (include/shabgozim.h): the listing and the report of a plan, a list read from text and inspected, refusals in
+// The texts of the C interface (include/shabgozim.h): the listing and the report of a plan, a list read from text, inspected or merged, refusals in
 // words, and the table of upper bytes. They stand in an archive of their own, so that the calls of the other one are not slowed down by
 // sharing functions with them.
 pub mod arrays;
 pub mod handing;
 pub mod lists;
 pub mod pem_h;
+pub mod two_operators;
 
 use import::read::read_list;
 use interface::state::well_formed;
