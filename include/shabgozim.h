@@ -6,8 +6,9 @@
  * the functions that write or read texts (`shabgozim_listing`,
  * `shabgozim_report`, `shabgozim_refusal`, `shabgozim_read_list`,
  * `shabgozim_inspection`, `shabgozim_list_refusal`, `shabgozim_upper_bytes`,
- * `shabgozim_h_picture`, `shabgozim_h_refusal`), and may be left out where none
- * of them is called:
+ * `shabgozim_h_picture`, `shabgozim_h_refusal`, `shabgozim_merge_texts`,
+ * `shabgozim_operator_refusal`), and may be left out where none of them is
+ * called:
  *
  *     rt staticlib interface
  *     rt staticlib texts
@@ -27,7 +28,8 @@
  *
  * Numbers of refusals are those of documents 01 and 02: 1-10 for plans, 11-13
  * for blocks, 21-25 for the head, 31 for lists, 41-42 for pixel maps, 43-44 for
- * requests; 91-96, for lists as text, are the library's own. 0 is success.
+ * requests, 51 for a word that is not passed on, 52-54 for merging; 91-96, for
+ * lists as text, are the library's own. 0 is success.
  *
  * One tick is 10 ms.
  */
@@ -558,6 +560,96 @@ uint64_t shabgozim_h_picture(const uint8_t *map, size_t map_length,
  * shorter than the line, and then writes nothing.
  */
 uint32_t shabgozim_h_refusal(uint8_t number, uint8_t *text, size_t text_length);
+
+/* ------------------------------------------------------------------------
+ * Two operators, one head. One operator gives the CCD words, the other the
+ * infrared words; the controller gives START, HK, STOP and NOP to the head
+ * (`shabgozim_word`), and passes the operators' words on to it.
+ */
+enum {
+    SHABGOZIM_CCD_GROUP = 0,        /* WIN X1, Y1, X2, Y2; CCD DELAY, EXPO, LAMP */
+    SHABGOZIM_INFRARED_GROUP = 1,   /* all others */
+    SHABGOZIM_CONTROLLER_GROUP = 2, /* START, HK, STOP, NOP */
+    SHABGOZIM_NO_GROUP = 3          /* of a number that is no kind */
+};
+
+/* The group of a kind of word; its bits above the low two are 0. */
+uint32_t shabgozim_group(uint8_t kind);
+
+/*
+ * Passes an operator's word on to the head: SHABGOZIM_CCD_GROUP or
+ * SHABGOZIM_INFRARED_GROUP says whose it is.
+ *
+ *     21   refused: the state is out of range
+ *     51   refused: the word is not allowed, not in that operator's group, or
+ *          the head is busy; any other `operator_group` is 51 too
+ *     else as `shabgozim_word` answers: the head has got the word, and the state
+ *          is advanced. It may still have ignored it: COVER while the cover
+ *          moves (22), a mirror word out of turn (25).
+ *
+ * A refusal leaves the state as it was.
+ */
+uint32_t shabgozim_pass_on(uint16_t *state, size_t length,
+                           uint8_t operator_group, uint16_t word);
+
+/* What merging answers. */
+typedef struct {
+    uint32_t number;   /* 0, or the refusal, 52-54 */
+    uint32_t rest_of;  /* whose list the rest is of: CCD or INFRARED group */
+    size_t count;      /* entries that were merged; 0 for a refusal */
+    size_t rest_start; /* where the rest starts in that list */
+} shabgozim_merged;
+
+/*
+ * Merges two lists by tick until one of them has run out. An entry is one
+ * number, tick x 65,536 + word. The rest of the other list, from `rest_start`
+ * on, is for the caller to go on with; where both have ended, it is the empty
+ * rest of the infrared list. The merged entries and then the rest are the merge
+ * of the two whole lists.
+ *
+ *     52   refused: the ticks of a list do not rise strictly
+ *     53   refused: the same tick stands in both lists
+ *     54   refused: `merged` is shorter than the merged part
+ *
+ * Success fills the first `count` places of `merged`, and writes no other. A
+ * refusal writes nothing, and its rest is the empty end of the infrared list.
+ */
+shabgozim_merged shabgozim_merge(const uint64_t *ccd, size_t ccd_length,
+                                 const uint64_t *infrared, size_t infrared_length,
+                                 uint64_t *merged, size_t merged_length);
+
+/* Bytes that have room for every merged list as text. */
+enum { SHABGOZIM_MERGED_TEXT = 16384 };
+
+/*
+ * Reads two lists from text, merges them, and writes the whole merged list as
+ * text, in the same form, with no end line: when the head is free again depends
+ * on the controller's words, which are in neither list. It has up to 512 words;
+ * `shabgozim_read_list` takes 256.
+ *
+ * Bits 0-7 of the answer: 0, or why nothing is written, in this order:
+ *     91-96  `ccd`, then `infrared`, is no list, as `shabgozim_read_list` says
+ *     53     the same tick stands in both
+ *     10     `text` is shorter than the merged list
+ * Bits 8-23, for 91-96: whose text it is, CCD or INFRARED group. Bits 32-63: for
+ * 91-96 the line, counted from 1; for 0 and 10 the length of the text. All other
+ * bits are 0.
+ *
+ * Success writes the merged list into the first bytes of `text`, and no other.
+ */
+uint64_t shabgozim_merge_texts(const uint8_t *ccd, size_t ccd_length,
+                               const uint8_t *infrared, size_t infrared_length,
+                               uint8_t *text, size_t text_length);
+
+/*
+ * Writes a refusal of a word that is not passed on (51) or of merging (52-54) in
+ * words, one line.
+ *
+ * Answers the length of the line; 0 where `number` is not 51-54 or `text` is
+ * shorter than the line, and then writes nothing.
+ */
+uint32_t shabgozim_operator_refusal(uint8_t number,
+                                    uint8_t *text, size_t text_length);
 
 #ifdef __cplusplus
 }
