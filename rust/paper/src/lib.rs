@@ -5,7 +5,8 @@
 //! from their description; the second decoder from document 02's request P2, and
 //! the table of upper bytes from its description; the high-resolution head from
 //! document 000's section 4.2 and document 02's request P5, and its picture from
-//! its description.
+//! its description; two operators on one head and their lists merged from
+//! document 02's request P6, and the merged text from its description.
 //!
 //! | module | idea |
 //! |---|---|
@@ -25,6 +26,8 @@
 //! | [`report`](mod@report) | what a head does with a plan, laid out for reading |
 //! | `in_words` | a refusal of a plan in words |
 //! | [`pem_h`] | the high-resolution head: requests, pixel map, picture |
+//! | [`operators`] | two operators: their words, and what one of them observes |
+//! | [`merge`](mod@merge) | two operators' lists merged by tick |
 
 #![forbid(unsafe_code)]
 
@@ -34,6 +37,8 @@ mod in_words;
 pub mod inspection;
 pub mod list;
 pub mod listing;
+pub mod merge;
+pub mod operators;
 pub mod pem_h;
 pub mod plan;
 pub mod reading;
@@ -52,6 +57,10 @@ pub use head::{receive, tick, word, Act, Cause, Outcome, Task, Ticked};
 pub use inspection::{inspection, Inspection};
 pub use list::list;
 pub use listing::listing;
+pub use merge::{merge, merge_answer, merge_texts, operator_refusal};
+pub use merge::{MergeAnswer, Merged, TextsRefusal};
+pub use operators::{busy_ticks, group_number, observe, pass_on};
+pub use operators::{BusyTicks, CcdRegisters, Given, Group, Observation, Seen, Tick};
 pub use plan::{CoverMove, Order, Refusal};
 pub use reading::{read_plan, LoggedAct, Reading};
 pub use report::report;
