@@ -1,5 +1,7 @@
 //! The C functions, as `include/shabgozim.h` declares them.
 
+use crate::raw::Merged;
+
 extern "C" {
     pub fn shabgozim_power_on(state: *mut u16, state_len: usize) -> u32;
     pub fn shabgozim_in_range(state: *const u16, state_len: usize) -> u32;
@@ -115,4 +117,28 @@ extern "C" {
         text_len: usize,
     ) -> u64;
     pub fn shabgozim_h_refusal(number: u8, text: *mut u8, text_len: usize) -> u32;
+    pub fn shabgozim_group(kind: u8) -> u32;
+    pub fn shabgozim_pass_on(
+        state: *mut u16,
+        state_len: usize,
+        operator_group: u8,
+        word: u16,
+    ) -> u32;
+    pub fn shabgozim_merge(
+        ccd: *const u64,
+        ccd_len: usize,
+        infrared: *const u64,
+        infrared_len: usize,
+        merged: *mut u64,
+        merged_len: usize,
+    ) -> Merged;
+    pub fn shabgozim_merge_texts(
+        ccd: *const u8,
+        ccd_len: usize,
+        infrared: *const u8,
+        infrared_len: usize,
+        text: *mut u8,
+        text_len: usize,
+    ) -> u64;
+    pub fn shabgozim_operator_refusal(number: u8, text: *mut u8, text_len: usize) -> u32;
 }

@@ -11,6 +11,8 @@
 //! | [`schedule`], [`translate`] | a stored plan turned into timed words |
 //! | [`listing`], [`State::report`], [`PlanRefusal::in_words`] | a plan listed, its simulation reported, a refusal in words |
 //! | [`read_list`], [`inspection`], [`ListTextRefusal::in_words`] | a list read from text and inspected |
+//! | [`State::pass_on`], [`Operator`], [`Group`] | a word of one of two operators passed on to the head |
+//! | [`merge`], [`merge_texts`], [`entry`] | the lists of two operators merged by tick |
 //! | [`write_ir`], [`read_ir`], [`write_ccd`], [`read_ccd`] | the two housekeeping blocks |
 //! | [`decode_request`], [`encode_request`], [`Request`], [`Meaning`] | the 32 requests of the high-resolution head |
 //! | [`PixelMap`], [`MapRefusal`] | its pixel map: lighted pixels, readout time, picture |
@@ -18,9 +20,10 @@
 //!
 //! Every answer is the one that document 01 gives (for lists document 02's
 //! request P1, for upper bytes its request P2, for the high-resolution head its
-//! request P5), for any input; what the library proves holds of the C
-//! functions, and this crate only unpacks. Single pixels of a [`PixelMap`] and
-//! the fields of [`CoverParameter`] and [`PemMode`] are found by this crate.
+//! request P5, for two operators its request P6), for any input; what the
+//! library proves holds of the C functions, and this crate only unpacks. Single
+//! pixels of a [`PixelMap`], the fields of [`CoverParameter`] and [`PemMode`],
+//! and the tick and word of an [`entry`] are found by this crate.
 //!
 //! # Examples
 //!
@@ -53,6 +56,18 @@
 //! assert_eq!(head.list(&[(5, 0), (5, 0)]), Err(ListRefusal::NoList));
 //! ```
 //!
+//! A word of each of two operators, one of which is not passed on:
+//!
+//! ```
+//! use shabgozim::{Act, Operator, Outcome, Passing, State};
+//!
+//! let mut head = State::power_on();
+//! // WIN X1 is the CCD operator's.
+//! let passed = head.pass_on(Operator::Ccd, 0x2864);
+//! assert_eq!(passed, Passing::Passed(Outcome::Taken(Act::None)));
+//! assert_eq!(head.pass_on(Operator::Infrared, 0x2864), Passing::NotPassed);
+//! ```
+//!
 //! A request of the high-resolution head, to a word and back:
 //!
 //! ```
@@ -69,6 +84,8 @@
 mod blocks;
 mod ffi;
 mod list;
+mod merge;
+mod operators;
 mod pixel_map;
 mod plan;
 pub mod raw;
@@ -80,6 +97,8 @@ mod words;
 
 pub use blocks::*;
 pub use list::*;
+pub use merge::*;
+pub use operators::*;
 pub use pixel_map::*;
 pub use plan::*;
 pub use requests::*;

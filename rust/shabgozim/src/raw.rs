@@ -300,3 +300,72 @@ pub fn h_refusal(number: u8, text: &mut [u8]) -> u32 {
     // SAFETY: as above, for one slice.
     unsafe { ffi::shabgozim_h_refusal(number, text.as_mut_ptr(), text.len()) }
 }
+
+/// The group of a kind of word: 0 CCD, 1 infrared, 2 controller, 3 of a number
+/// that is no kind.
+pub fn group(kind: u8) -> u32 {
+    // SAFETY: a plain number.
+    unsafe { ffi::shabgozim_group(kind) }
+}
+
+/// Passes a word of the operator with this group (0 or 1) on to the head: 21,
+/// 51 where it is not passed on, else the answer of [`word`].
+pub fn pass_on(state: &mut [u16], operator_group: u8, word: u16) -> u32 {
+    // SAFETY: as above, for one slice.
+    unsafe { ffi::shabgozim_pass_on(state.as_mut_ptr(), state.len(), operator_group, word) }
+}
+
+/// What [`merge`] answers.
+#[derive(Clone, Copy, Debug, PartialEq, Eq)]
+#[repr(C)]
+pub struct Merged {
+    /// 0, or 52 to 54.
+    pub number: u32,
+    /// Whose list the rest is of: 0 CCD, 1 infrared.
+    pub rest_of: u32,
+    /// How many entries were merged; 0 for a refusal.
+    pub count: usize,
+    /// Where the rest starts in that list.
+    pub rest_start: usize,
+}
+
+/// Merges two lists of entries, each tick x 65,536 + word, until one has run
+/// out. A refusal writes nothing, and its rest is the empty end of `infrared`.
+pub fn merge(ccd: &[u64], infrared: &[u64], merged: &mut [u64]) -> Merged {
+    // SAFETY: as above, for three slices.
+    unsafe {
+        ffi::shabgozim_merge(
+            ccd.as_ptr(),
+            ccd.len(),
+            infrared.as_ptr(),
+            infrared.len(),
+            merged.as_mut_ptr(),
+            merged.len(),
+        )
+    }
+}
+
+/// Merges two lists that are text. Bits 0 to 7: number (0, 91 to 96, 53, or 10
+/// where `text` is shorter); 8 to 23: whose text it is (0 CCD, 1 infrared), for
+/// 91 to 96; 32 to 63: the line for 91 to 96, the text's length for 0 and 10.
+pub fn merge_texts(ccd: &[u8], infrared: &[u8], text: &mut [u8]) -> u64 {
+    // SAFETY: as above, for three slices.
+    unsafe {
+        ffi::shabgozim_merge_texts(
+            ccd.as_ptr(),
+            ccd.len(),
+            infrared.as_ptr(),
+            infrared.len(),
+            text.as_mut_ptr(),
+            text.len(),
+        )
+    }
+}
+
+/// Writes a refusal of a word that is not passed on or of merging in words, with
+/// a newline: the length, or 0 where `number` is none of 51 to 54 or `text` is
+/// shorter.
+pub fn operator_refusal(number: u8, text: &mut [u8]) -> u32 {
+    // SAFETY: as above, for one slice.
+    unsafe { ffi::shabgozim_operator_refusal(number, text.as_mut_ptr(), text.len()) }
+}

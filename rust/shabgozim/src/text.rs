@@ -109,6 +109,13 @@ pub(crate) fn h_refusal(number: u8) -> String {
     line(text, length)
 }
 
+/// A refusal of a word that is not passed on, or of merging, in words.
+pub(crate) fn operator_refusal(number: u8) -> String {
+    let mut text = vec![0; REFUSAL_LENGTH];
+    let length = raw::operator_refusal(number, &mut text);
+    line(text, length)
+}
+
 /// The first bytes as text, without a newline at their end.
 pub(crate) fn line(text: Vec<u8>, length: u32) -> String {
     let mut line = first(text, length);
