@@ -1,6 +1,6 @@
 //! What the arguments ask for.
 
-use crate::description::{Inputs, Prints, OPTIONS, SUBCOMMANDS};
+use crate::description::{Inputs, Pair, Prints, OPTIONS, SUBCOMMANDS};
 use crate::failure::Failure;
 use crate::source::Source;
 use crate::texts::Text;
@@ -12,6 +12,8 @@ pub enum Asked {
     Show(fn() -> String),
     /// The texts of plans, or of a list, or the picture of a map.
     Texts(&'static Inputs, Vec<Source>),
+    /// The text of two inputs together.
+    Pair(&'static Pair, [Source; 2]),
     /// The text about words.
     Words(fn(&[u16]) -> Text, Vec<u16>),
 }
@@ -70,6 +72,7 @@ fn subcommand(operands: Vec<OsString>) -> Result<Asked, Failure> {
             let sources = sources(operands, inputs.most_names)?;
             Ok(Asked::Texts(inputs, or_standard_input(sources)))
         }
+        Prints::Pair(pair) => Ok(Asked::Pair(pair, both(pair, operands)?)),
         Prints::Words(text) => Ok(Asked::Words(*text, words(operands)?)),
     }
 }
@@ -88,6 +91,21 @@ fn or_standard_input(mut sources: Vec<Source>) -> Vec<Source> {
         sources.push(Source::StandardInput);
     }
     sources
+}
+
+/// The two sources that must be named. Standard input cannot be read twice.
+fn both(pair: &Pair, names: impl Iterator<Item = OsString>) -> Result<[Source; 2], Failure> {
+    let sources = sources(names, pair.operands.len())?;
+    match <[Source; 2]>::try_from(sources) {
+        Ok([Source::StandardInput, again @ Source::StandardInput]) => {
+            Err(Failure::usage(again.name(), "named twice"))
+        }
+        Ok(both) => Ok(both),
+        Err(fewer) => {
+            let missing = pair.operands[fewer.len()];
+            Err(Failure::usage(OsStr::new(missing), "missing"))
+        }
+    }
 }
 
 /// One word or more.

@@ -2,8 +2,8 @@
 //! and manual page are made from it.
 
 use crate::failure::{DONE, FAILED, REFUSED};
-use crate::texts::{inspected, pictured, planned, Text};
-use crate::{help, man, requests};
+use crate::texts::{inspected, pictured, planned, PairRefusal, Text};
+use crate::{help, man, merge, requests};
 use shabgozim::{listing, upper_bytes, PixelMap, State, MOST_LIST_BYTES, MOST_PLAN_BYTES};
 use std::ffi::c_int;
 
@@ -11,7 +11,7 @@ pub const NAME: &str = "shabgozim";
 
 pub const SUMMARY: &str =
     "lists plans for the VIRTIS-M instrument head, reports what the head does with them, \
-     inspects lists, and shows pixel maps and requests of the high-resolution head";
+     inspects and merges lists, and shows pixel maps and requests of the high-resolution head";
 
 pub struct Subcommand {
     pub name: &'static str,
@@ -24,6 +24,8 @@ pub enum Prints {
     Table(fn() -> String),
     /// The texts of plans, or of a list, or the picture of a map.
     Texts(Inputs),
+    /// The text of two inputs together.
+    Pair(Pair),
     /// The text about words that are given as arguments.
     Words(fn(&[u16]) -> Text),
 }
@@ -37,6 +39,17 @@ pub struct Inputs {
     /// The text or picture of an input for a head, or the refusal in words. The
     /// input has one byte more where it is too long.
     pub text: fn(&mut State, &[u8]) -> Result<Text, String>,
+}
+
+/// Two inputs, both of which must be named.
+pub struct Pair {
+    /// The names in the synopsis.
+    pub operands: [&'static str; 2],
+    /// The most bytes that an input may have.
+    pub most_bytes: usize,
+    /// The text of both, or the refusal. An input has one byte more where it is
+    /// too long.
+    pub text: fn([&[u8]; 2]) -> Result<Text, PairRefusal>,
 }
 
 /// The words in the synopsis.
@@ -78,6 +91,19 @@ pub const SUBCOMMANDS: &[Subcommand] = &[
                the settings that are left, and how many findings there are: ignored words, \
                exposures while a mirror set is incomplete, and exposures begun while something \
                moves.",
+    },
+    Subcommand {
+        name: "merge",
+        prints: Prints::Pair(Pair {
+            operands: ["CCD", "INFRARED"],
+            most_bytes: MOST_LIST_BYTES,
+            text: merge::merged,
+        }),
+        says: "Prints the lists of the CCD operator and of the infrared operator as one list, \
+               merged by tick. It has no end, since that depends on the controller's words, and \
+               may have more words than inspect takes. Whether a word is its operator's is not \
+               judged. Two lists that have a tick in common are refused; the first such tick is \
+               told, with its line in each.",
     },
     Subcommand {
         name: "upper-bytes",
@@ -143,8 +169,8 @@ pub const STATUSES: &[(c_int, &str)] = &[
     ),
     (
         REFUSED,
-        "A plan, a list, a pixel map or a word was refused, or a list was inspected and has \
-         findings.",
+        "A plan, a list, a pixel map or a word was refused, two lists to be merged have a tick \
+         in common, or a list was inspected and has findings.",
     ),
     (
         FAILED,
@@ -167,6 +193,10 @@ pub const EXAMPLES: &[(&str, &str)] = &[
         "Puts a list into the folder sound, but only where its inspection has no findings.",
     ),
     (
+        "shabgozim merge ccd.list infrared.list > both.list",
+        "Merges the lists of the two operators.",
+    ),
+    (
         "shabgozim pixel-map my.map > my.pbm",
         "Makes a picture of a pixel map, which viewers of pictures open.",
     ),
@@ -185,15 +215,18 @@ pub fn about() -> Vec<String> {
     let input = format!(
         "A PLAN is the name of a file that has a stored plan, a LIST that of a file that has a \
          list of words as the subcommand list prints it, a MAP that of a file that has a pixel \
-         map. Without a name, and for the name -, standard input is read. A plan of more than \
+         map. CCD and INFRARED are names like LIST, for the lists of the two operators. For the \
+         name -, and without a name where it may be left out, standard input is read; one of the \
+         two operators' lists can come from there, not both. A plan of more than \
          {MOST_PLAN_BYTES} bytes and a list of more than {MOST_LIST_BYTES} bytes are refused, and \
          a map that has not {} bytes. A WORD is four hexadecimal digits, the letters of either \
          case.",
         PixelMap::BYTES
     );
     let output = "What is printed is the verified library's text; the lines of the subcommand \
-                  requests are made from its answers. Nothing is printed for a refused plan, list \
-                  or map: the refusal is told on standard error, with its number and, where it \
+                  requests, and the tick that two lists share, are made from its answers. \
+                  Nothing is printed for a refused plan, list or map, nor for lists that are not \
+                  merged: the refusal is told on standard error, with its number and, where it \
                   has one, its place. A refused word has its refusal in its line. All output is \
                   written at the end, when it is complete.";
     vec![input, output.into()]

@@ -20,7 +20,7 @@ pub struct Failure {
 }
 
 impl Failure {
-    /// A plan, a list or a map that is refused with these words.
+    /// A plan, a list, two lists or a map that is refused with these words.
     pub fn refused(about: &OsStr, words: &str) -> Failure {
         Failure {
             about: about.into(),

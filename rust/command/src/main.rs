@@ -1,5 +1,6 @@
-//! `shabgozim`: lists plans, reports what the head does with them, inspects lists,
-//! prints the table of upper bytes, shows pixel maps, and reads requests.
+//! `shabgozim`: lists plans, reports what the head does with them, inspects and
+//! merges lists, prints the table of upper bytes, shows pixel maps, and reads
+//! requests.
 //!
 //! | module | idea |
 //! |---|---|
@@ -7,7 +8,8 @@
 //! | `sections`, `help`, `man` | the description in sections, as plain text, and as a manual page |
 //! | `arguments` | what is asked for |
 //! | `source` | where a plan, a list or a map comes from, and its bytes |
-//! | `texts` | the texts of plans, one after another, of a list, and a map's picture |
+//! | `texts` | the texts of plans in a row, of a list, of two inputs, and a map's picture |
+//! | `merge` | the lists of the two operators, merged into one |
 //! | `requests` | what the words of requests mean, a line for each |
 //! | `failure` | why something was not done, told on standard error |
 //! | `descriptors` | standard input, output and error, as they were given |
@@ -20,6 +22,7 @@ mod descriptors;
 mod failure;
 mod help;
 mod man;
+mod merge;
 mod requests;
 mod sections;
 mod source;
@@ -45,6 +48,7 @@ fn run() -> Result<c_int, Failure> {
     let done = match arguments::read(env::args_os().skip(1))? {
         Asked::Show(text) => Texts::of(Text::done(text())),
         Asked::Texts(inputs, sources) => texts::of_all(inputs, &sources, &descriptors),
+        Asked::Pair(pair, sources) => Texts::of(texts::of_pair(pair, &sources, &descriptors)?),
         Asked::Words(text, words) => Texts::of(text(&words)),
     };
     Ok(finish(done, descriptors))

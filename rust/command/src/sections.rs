@@ -66,6 +66,7 @@ impl Subcommand {
         let call = match &self.prints {
             Prints::Table(_) => self.name.into(),
             Prints::Texts(inputs) => format!("{} {}", self.name, inputs.operands),
+            Prints::Pair(pair) => format!("{} {}", self.name, pair.operands.join(" ")),
             Prints::Words(_) => format!("{} {WORDS}", self.name),
         };
         (call, self.says.into())

@@ -1,16 +1,27 @@
-//! The texts of plans, one after another, of a list, and a map's picture.
+//! The texts of plans, one after another, of a list, of two inputs, and a map's
+//! picture.
 
-use crate::description::Inputs;
+use crate::description::{Inputs, Pair};
 use crate::descriptors::Descriptors;
 use crate::failure::{Failure, DONE, REFUSED};
 use crate::source::Source;
 use shabgozim::{inspection, read_list, PixelMap, PlanRefusal, State, MOST_PLAN_BYTES};
-use std::ffi::c_int;
+use std::ffi::{c_int, OsStr};
+
+/// What stands between the names of inputs in a message.
+const BETWEEN_NAMES: &str = ", ";
 
 /// The text or picture of one input, and the exit status when it is printed.
 pub struct Text {
     pub bytes: Vec<u8>,
     pub status: c_int,
+}
+
+/// Why two inputs have no text.
+pub struct PairRefusal {
+    /// The places of the inputs that it is about.
+    pub about: &'static [usize],
+    pub words: String,
 }
 
 /// What is to be printed, the exit status then, and why it is not more.
@@ -71,6 +82,22 @@ fn of_one(
     let input = source.bytes(inputs.most_bytes, descriptors)?;
     let text = (inputs.text)(head, &input);
     text.map_err(|refusal| Failure::refused(source.name(), &refusal))
+}
+
+/// The text of two sources together. Both are read before either is judged.
+pub fn of_pair(
+    pair: &Pair,
+    sources: &[Source; 2],
+    descriptors: &Descriptors,
+) -> Result<Text, Failure> {
+    let [first, second] = sources;
+    let first = first.bytes(pair.most_bytes, descriptors)?;
+    let second = second.bytes(pair.most_bytes, descriptors)?;
+    (pair.text)([&first, &second]).map_err(|refusal| {
+        let names = refusal.about.iter().map(|&place| sources[place].name());
+        let names = names.collect::<Vec<_>>().join(OsStr::new(BETWEEN_NAMES));
+        Failure::refused(&names, &refusal.words)
+    })
 }
 
 /// A text about a plan.

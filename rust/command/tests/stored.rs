@@ -1,8 +1,9 @@
 //! The stored texts of the examples: `NAME.report` is that of `NAME.plan`, or of
 //! the plans that the one line of `NAME.plans` names; `NAME.inspection` that of
 //! `NAME.list`, or the refusal in words; `NAME.pbm` is the picture of `NAME.map`,
-//! and `NAME.refusal` its refusal in words. The table of upper bytes is stored
-//! with the program `upper_bytes`.
+//! and `NAME.refusal` its refusal in words. In the folder `merge` of the lists
+//! `merged.list` is what `ccd.list` and `infrared.list` give together. The table
+//! of upper bytes is stored with the program `upper_bytes`.
 
 use std::fs;
 use std::path::{Path, PathBuf};
@@ -11,6 +12,7 @@ use std::slice;
 
 const PLANS: &str = concat!(env!("CARGO_MANIFEST_DIR"), "/../../examples/plans");
 const LISTS: &str = concat!(env!("CARGO_MANIFEST_DIR"), "/../../examples/lists");
+const MERGE: &str = concat!(env!("CARGO_MANIFEST_DIR"), "/../../examples/lists/merge");
 const MAPS: &str = concat!(env!("CARGO_MANIFEST_DIR"), "/../../examples/maps");
 const TABLE: &str = concat!(
     env!("CARGO_MANIFEST_DIR"),
@@ -58,6 +60,14 @@ fn inspections() {
     }
     let count = inspections.len();
     assert!(count >= LEAST_INSPECTIONS, "{count} inspections");
+}
+
+#[test]
+fn merged_list() {
+    let path = Path::new(MERGE).join("merged.list");
+    let list = fs::read_to_string(&path).expect("a list is text");
+    let names = ["ccd.list", "infrared.list"].map(String::from);
+    expect(&path, run(MERGE, "merge", &names), 0, &list, "");
 }
 
 #[test]

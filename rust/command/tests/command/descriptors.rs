@@ -6,6 +6,8 @@ use std::fs;
 use std::io;
 use std::process::{Command, Stdio};
 
+/// A list that can be merged with `LISTED`.
+const LATER: &[u8] = b"tick word\n300 9832\n";
 const INPUT_CLOSED: &str = "shabgozim: standard input: Bad file descriptor\n";
 const OUTPUT_CLOSED: &str = "shabgozim: standard output: Bad file descriptor\n";
 const OUTPUT_FULL: &str = "shabgozim: standard output: No space left on device\n";
@@ -16,6 +18,7 @@ fn folder() -> Folder {
         .with("bad.plan", TOO_SHORT)
         .with("my.list", LISTED.as_bytes())
         .with("lost.list", LOST)
+        .with("later.list", LATER)
         .with("my.map", map().bytes())
 }
 
@@ -28,6 +31,8 @@ fn a_closed_input() {
         "report",
         "report -",
         "inspect",
+        "merge - my.list",
+        "merge my.list -",
         "pixel-map",
         "pixel-map -",
     ] {
@@ -55,6 +60,7 @@ fn a_closed_output() {
         "report good.plan",
         "inspect my.list",
         "inspect lost.list",
+        "merge my.list later.list",
         "upper-bytes",
         "pixel-map my.map",
         "requests 4401",
@@ -101,6 +107,7 @@ fn a_full_output() {
         "report good.plan",
         "inspect my.list",
         "inspect lost.list",
+        "merge my.list later.list",
         "upper-bytes",
         "pixel-map my.map",
         "requests 4401",
@@ -116,6 +123,10 @@ fn a_full_output() {
     let told = refusal("bad.plan", TOO_SHORT);
     let refused = folder.shell("\"$0\" list bad.plan >/dev/full");
     expect(refused, 1, "", &told);
+    let told_of_both = "shabgozim: my.list, lost.list: refused 53: the same tick in both lists \
+                        (tick 0, lines 2 and 2)\n";
+    let refused = folder.shell("\"$0\" merge my.list lost.list >/dev/full");
+    expect(refused, 1, "", told_of_both);
     let both = folder.shell("\"$0\" report good.plan bad.plan >/dev/full");
     expect(both, 2, "", &(OUTPUT_FULL.to_owned() + &told));
 }
@@ -142,6 +153,7 @@ fn a_pipe_without_a_reader() {
         &["list", "good.plan"][..],
         &["report", "good.plan"],
         &["inspect", "lost.list"],
+        &["merge", "my.list", "later.list"],
         &["upper-bytes"],
         &["pixel-map", "my.map"],
         &["requests", "FFFF"],

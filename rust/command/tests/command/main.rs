@@ -5,6 +5,7 @@ mod descriptors;
 mod inputs;
 mod lists;
 mod maps;
+mod merges;
 mod pages;
 mod plans;
 mod requests;

@@ -5,6 +5,7 @@ use crate::run::*;
 const USAGE: &str = "usage: shabgozim list [PLAN]
        shabgozim report [PLAN...]
        shabgozim inspect [LIST]
+       shabgozim merge CCD INFRARED
        shabgozim upper-bytes
        shabgozim pixel-map [MAP]
        shabgozim requests WORD...
@@ -45,6 +46,20 @@ fn wrong_arguments_give_the_usage() {
     wrong(&["upper_bytes"], "upper_bytes: unknown subcommand");
     wrong(&["pixel-map", "a", "b"], "b: one name too many");
     wrong(&["pixel_map"], "pixel_map: unknown subcommand");
+}
+
+#[test]
+fn two_lists_must_be_named() {
+    wrong(&["merge"], "CCD: missing");
+    wrong(&["merge", "--"], "CCD: missing");
+    wrong(&["merge", "a"], "INFRARED: missing");
+    wrong(&["merge", "-"], "INFRARED: missing");
+    wrong(&["merge", "a", "b", "c"], "c: one name too many");
+    wrong(&["merge", "-", "-"], "standard input: named twice");
+    wrong(&["merge", "--", "-", "-"], "standard input: named twice");
+    let excess = "standard input: one name too many";
+    wrong(&["merge", "-", "-", "-"], excess);
+    wrong(&["merge", "a", "-x"], "-x: unknown option");
 }
 
 #[test]
