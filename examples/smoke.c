@@ -3,7 +3,8 @@
  * then document 01's example plan, translated and run tick by tick on the head;
  * then its list in one call, whole and with a word lost; then texts, the list
  * with a word lost read from text and inspected, and the table of upper bytes;
- * last the requests and the pixel map of the high-resolution head.
+ * then the requests and the pixel map of the high-resolution head; last words of
+ * two operators passed on, and their lists merged.
  *
  *     rt staticlib interface && rt staticlib texts
  *     cc -Wall -Wextra -Werror -I include examples/smoke.c \
@@ -324,6 +325,71 @@ static void print_pixel_map(void)
     print_h_refusal(shabgozim_h_readout(map, sizeof map) >> 24);
 }
 
+static void print_operator_refusal(uint32_t number)
+{
+    static uint8_t text[SHABGOZIM_REFUSAL];
+    uint32_t length = shabgozim_operator_refusal((uint8_t)number, text,
+                                                 sizeof text);
+    fwrite(text, 1, length, stdout);
+}
+
+/* A word of each operator: CCD EXPO is passed on; then START makes the head
+ * busy, and IR EXPO is not. */
+static void pass_words_on(void)
+{
+    uint16_t state[SHABGOZIM_STATE];
+    shabgozim_power_on(state, SHABGOZIM_STATE);
+    uint32_t ccd = shabgozim_pass_on(state, SHABGOZIM_STATE,
+                                     SHABGOZIM_CCD_GROUP, 0x9832);
+    printf("CCD EXPO is of group %" PRIu32 ", passed on: %" PRIu32
+           ", now %u\n",
+           shabgozim_group(17), ccd, (unsigned)state[SHABGOZIM_CCD_EXPO]);
+    shabgozim_word(state, SHABGOZIM_STATE, 0x8000);
+    uint32_t infrared = shabgozim_pass_on(state, SHABGOZIM_STATE,
+                                          SHABGOZIM_INFRARED_GROUP, 0x08C8);
+    printf("IR EXPO is of group %" PRIu32 ", still %u\n", shabgozim_group(11),
+           (unsigned)state[SHABGOZIM_IR_EXPO]);
+    print_operator_refusal(infrared);
+}
+
+/* Merges two lists of entries, first with one place too few. The rest is for
+ * the caller to go on with. */
+static void merge_lists(void)
+{
+    static const uint64_t ccd[] = {0x00002864, 0x00049832, 0x012C9864};
+    static const uint64_t infrared[] = {0x00012011, 0x0002A000, 0x0003600F,
+                                        0x0005E0F8};
+    uint64_t merged[6];
+    shabgozim_merged answer = shabgozim_merge(ccd, 3, infrared, 4, merged, 5);
+    print_operator_refusal(answer.number);
+    answer = shabgozim_merge(ccd, 3, infrared, 4, merged, 6);
+    printf("merged %zu:", answer.count);
+    for (size_t i = 0; i < answer.count; i++) {
+        printf(" %" PRIu64 " %04X", merged[i] >> 16,
+               (unsigned)(merged[i] & 0xFFFF));
+    }
+    printf("\nthe rest is of the %s list, from %zu on\n",
+           answer.rest_of == SHABGOZIM_CCD_GROUP ? "CCD" : "infrared",
+           answer.rest_start);
+}
+
+/* The same as text, where the whole list is written. */
+static void merge_texts(void)
+{
+    static const char ccd[] = "tick word\n0 2864\n4 9832\n300 9864\n";
+    static const char infrared[] =
+        "tick word\n1 2011\n2 A000\n3 600F\n5 E0F8\nend 71\n";
+    static uint8_t text[SHABGOZIM_MERGED_TEXT];
+    uint64_t merged = shabgozim_merge_texts(
+        (const uint8_t *)ccd, strlen(ccd), (const uint8_t *)infrared,
+        strlen(infrared), text, sizeof text);
+    fwrite(text, 1, (size_t)(merged >> 32), stdout);
+    uint64_t refused = shabgozim_merge_texts(
+        (const uint8_t *)ccd, strlen(ccd), (const uint8_t *)ccd, strlen(ccd),
+        text, sizeof text);
+    print_operator_refusal((uint32_t)(refused & 0xFF));
+}
+
 int main(void)
 {
     by_hand();
@@ -335,5 +401,8 @@ int main(void)
     print_upper_bytes();
     print_requests();
     print_pixel_map();
+    pass_words_on();
+    merge_lists();
+    merge_texts();
     return 0;
 }
