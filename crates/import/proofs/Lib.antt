@@ -15,3 +15,4 @@ pub mod PlanWords
 pub mod Round
 pub mod Exact
 pub mod Places
+pub mod Rooms

@@ -6,21 +6,20 @@ use mathlib.Core.List.{List, [], _∷_, map}
 use Prim.Native.Nat.{ℕ, _-_, _≤_, min}
 use native.Mathlib.Nat.{zero-add}
 use native.Mathlib.Omega.{arith}
-use borrow.Author.Tests.{le-leb}
-use lib.ListN.{length, take, drop, length-map}
-use lib.Seq.{sets, length-sets, take-at, length-take-le}
+use lib.ListN.{length, take, length-map}
+use lib.Seq.{sets, length-sets, length-take-le}
 use Rattle.timed.specs.List.{isList}
 use Rattle.layout.specs.Numbers.{ascii}
 use Rattle.layout.specs.Written.{Written, Front}
 use Rattle.layout.specs.Template.{layout}
-use Rattle.layout.proofs.Overwriting.{sets-front}
 use Rattle.layout.proofs.Writing.{written-none, written-front}
 use Rattle.layout.proofs.Widths.{layout-few}
-use Rattle.import.specs.Read.{importOf, withRoom, importInto, importCount, wordOf, tickOf, wordLinesIn, wordsIn, ticksIn, importAfter}
+use Rattle.import.specs.Read.{importOf, importInto, importCount, wordOf, tickOf, wordLinesIn, wordsIn, ticksIn, importAfter}
 use Rattle.import.specs.declared.line.Line.{Line}
 use Rattle.import.specs.declared.read.Import.{Import}
 use Rattle.import.specs.declared.read.Import.the-variants.{Done, Refused, Short}
 use Rattle.import.proofs.Places.{import-not-short}
+use Rattle.import.proofs.Rooms.{front-read, room-enough}
 use Rattle.import.proofs.Lists.{import-words, import-list}
 use Rattle.inspection.specs.Inspection.{inspectionText, countsOf, inspectedOf, inspectionAfter}
 use Rattle.inspection.specs.declared.counts.Counts.{Counts}
@@ -57,19 +56,6 @@ written-refusal number line is w = rw is at w
 pub refusal-few : (number line : ℕ) → length (refusalText number line) ≤ 256
 unfolding refusalText refusalTemplate ascii
 refusal-few number line = omega (arith, layout-few refusalTemplate (number ∷ reasonIndex number ∷ line ∷ []) [])
-
--- the numbers of a list that was read, in the first places of a buffer
-front-read : (numbers old : List ℕ) (n : ℕ) → length numbers ≡ n → n ≤ length old → take n (importAfter (Done n) numbers old) ≡ numbers
-unfolding importAfter
-front-read numbers old n long room =
-    ap (take n) (sets-front numbers old (omega arith)) ∙ take-at numbers (drop (length numbers) old) n long
-
--- with room for 256 words in both buffers the answer is that of the text
-room-enough : (a : Import) → ((n : ℕ) → a ≡ Done n → n ≤ 256) → withRoom a 256 256 ≡ a
-unfolding withRoom
-room-enough (Done n) few = let h = few n refl in rw (le-leb n 256 h)
-room-enough (Refused n l) few = refl
-room-enough (Short n) few = refl
 
 -- a list read into two buffers of 256 places
 module _ (text W T : List ℕ) (roomW : length W ≡ 256) (roomT : length T ≡ 256) {a : Import} (into : a ≡ importInto text (length W) (length T)) where

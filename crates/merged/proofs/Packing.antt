@@ -5,14 +5,13 @@ use mathlib.Core.List.{List, [], _∷_, _++_, append-nil}
 use Prim.Native.Nat.{ℕ, zero, suc, _+_, _*_, _≤_, _<_}
 use native.Mathlib.Numerals.{add-one}
 use native.Mathlib.Omega.{arith}
-use borrow.Author.Tests.{le-leb}
 use lib.ListN.{length, getD, take, drop, set, length-set, drop-of-length-le}
-use lib.Seq.{drop-cons, take-suc-set, append-snoc, take-all, take-at}
-use Rattle.layout.proofs.Overwriting.{sets-front}
-use Rattle.import.specs.Read.{importOf, withRoom, importInto, importCount, wordLinesIn, wordsIn, ticksIn, importAfter}
+use lib.Seq.{drop-cons, take-suc-set, append-snoc, take-all}
+use Rattle.import.specs.Read.{importOf, importInto, importCount, wordLinesIn, wordsIn, ticksIn, importAfter}
 use Rattle.import.specs.declared.read.Import.{Import}
 use Rattle.import.specs.declared.read.Import.the-variants.{Done, Refused, Short}
 use Rattle.import.proofs.Places.{import-not-short}
+use Rattle.import.proofs.Rooms.{front-read, room-enough}
 use Rattle.import.proofs.Lists.{import-words, import-ticks, import-list}
 use Rattle.merged.specs.Text.{entries, entriesIn}
 
@@ -66,19 +65,6 @@ entries-first zero ts ws = refl
 entries-first (suc n) [] ws = refl
 entries-first (suc n) (t ∷ ts) [] = refl
 entries-first (suc n) (t ∷ ts) (w ∷ ws) = ap (λ (l : List ℕ). (t * 65536 + w) ∷ l) (entries-first n ts ws)
-
--- with room for 256 words in both arrays the answer is that of the text
-room-enough : (a : Import) → ((n : ℕ) → a ≡ Done n → n ≤ 256) → withRoom a 256 256 ≡ a
-unfolding withRoom
-room-enough (Done n) few = let h = few n refl in rw (le-leb n 256 h)
-room-enough (Refused n l) few = refl
-room-enough (Short n) few = refl
-
--- the numbers of a list that was read, in the first places
-front-read : (numbers old : List ℕ) (n : ℕ) → length numbers ≡ n → n ≤ length old → take n (importAfter (Done n) numbers old) ≡ numbers
-unfolding importAfter
-front-read numbers old n long room =
-    ap (take n) (sets-front numbers old (omega arith)) ∙ take-at numbers (drop (length numbers) old) n long
 
 module _ (text : List ℕ) {a : Import} (into : a ≡ importInto text 256 256) where
   pub read-answer : a ≡ importOf text
