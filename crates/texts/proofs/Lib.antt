@@ -4,5 +4,6 @@ pub mod Listing
 pub mod Reporting
 pub mod Wording
 pub mod Reading
+pub mod OneLine
 pub mod PemH
 pub mod TwoOperators

@@ -92,3 +92,10 @@ unfoldable pub refusalLeft : ℕ → ℕ → List ℕ → List ℕ → List ℕ
 refusalLeft number place bs old =
     let text = refusalText number place bs in
     textAfter (isRefusal number && hasRoom text old) text old
+
+-- A refusal in words: the length of the words, 0 where nothing is written; `known` is whether the number has words.
+unfoldable pub wordsLength : Bool → List ℕ → List ℕ → ℕ
+wordsLength known text old = cond (known && hasRoom text old) (length text) 0
+
+unfoldable pub wordsLeft : Bool → List ℕ → List ℕ → List ℕ
+wordsLeft known text old = textAfter (known && hasRoom text old) text old

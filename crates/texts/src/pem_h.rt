@@ -9,7 +9,8 @@ use pixels::lighted;
 ghost use mathlib.Core.Path.{_≡_};
 ghost use mathlib.Core.Bool.{true};
 ghost use Rattle.picture.specs.Printed.{refusalText};
-ghost use Rattle.texts.specs.PemH.{pictureAnswer, pictureLeft, isPemHRefusal, wordsLength, wordsLeft};
+ghost use Rattle.texts.specs.Texts.{wordsLength, wordsLeft};
+ghost use Rattle.texts.specs.PemH.{pictureAnswer, pictureLeft, isPemHRefusal};
 
 // Room for every refusal in words.
 const MOST_WORDING: usize = 256;

@@ -9,7 +9,7 @@ use merged::refusal::put_refusal;
 ghost use mathlib.Core.Path.{_≡_};
 ghost use mathlib.Core.Bool.{true};
 ghost use Rattle.merged.specs.Refusal.{refusalText};
-ghost use Rattle.texts.specs.PemH.{wordsLength, wordsLeft};
+ghost use Rattle.texts.specs.Texts.{wordsLength, wordsLeft};
 ghost use Rattle.texts.specs.Operators.{mergeTextsAnswer, mergeTextsLeft, isOperatorRefusal};
 
 // Room for every refusal in words.

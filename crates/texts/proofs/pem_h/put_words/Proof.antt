@@ -1,6 +1,7 @@
 -- `texts::pem_h::put_words` meets its contract.
 -- Assumes nothing.
-use Rattle.texts.proofs.PemH.{words-count, words-few, words-length, words-left}
+use Rattle.picture.proofs.Pictures.{refusal-few}
+use Rattle.texts.proofs.OneLine.{words-count, words-few, words-length, words-left}
 use borrow.Author.Needs.{needs}
 use Rattle.texts.proofs.pem_h.put_words.Statement.{statement}
 use Rattle.texts.proofs.pem_h.put_words.Tie as tie
@@ -15,16 +16,16 @@ array-share-prefix-made : tie.Need-array-share-prefix-made
 array-share-prefix-made c = search needs
 
 slice-aggregate-hand-over-wording : tie.Need-slice-aggregate-hand-over-wording
-slice-aggregate-hand-over-wording c = search (needs, words-count)
+slice-aggregate-hand-over-wording c = search (needs, words-count, refusal-few)
 
 hand-over-wording-requires : tie.Need-hand-over-wording-requires
-hand-over-wording-requires c κs = search (needs, words-few)
+hand-over-wording-requires c κs = search (needs, words-few, refusal-few)
 
 same-length : tie.Need-same-length
 same-length c = search needs
 
 returns : tie.Need-returns
-returns c = search (needs, words-length, words-left)
+returns c = search (needs, words-length, words-left, refusal-few)
 
 pub put-words-spec : {M : Type 1} → statement M
 put-words-spec =

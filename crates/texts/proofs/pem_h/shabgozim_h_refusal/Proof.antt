@@ -1,11 +1,13 @@
 -- `texts::pem_h::shabgozim_h_refusal` meets its contract.
 -- Assumes nothing.
-use Rattle.texts.proofs.PemH.{no-words-length, no-words-left, known-length, known-left}
+use Rattle.texts.specs.PemH.{isPemHRefusal}
+use Rattle.texts.proofs.OneLine.{no-words-length, no-words-left, known-length, known-left}
 use borrow.Author.Needs.{needs}
 use Rattle.texts.proofs.pem_h.shabgozim_h_refusal.Statement.{statement}
 use Rattle.texts.proofs.pem_h.shabgozim_h_refusal.Tie as tie
 
 returns : tie.Need-returns
+unfolding isPemHRefusal
 returns c = search (needs, no-words-length, no-words-left)
 
 put-words-requires : tie.Need-put-words-requires
@@ -15,6 +17,7 @@ same-length : tie.Need-same-length
 same-length c = search needs
 
 returns-2 : tie.Need-returns-2
+unfolding isPemHRefusal
 returns-2 c = search (needs, known-length, known-left)
 
 pub shabgozim-h-refusal-spec : {M : Type 1} → statement M

@@ -1,7 +1,7 @@
 -- `texts::two_operators::put_words` meets its contract.
 -- Assumes nothing.
 use Rattle.merged.proofs.Wording.{refusal-few}
-use Rattle.texts.proofs.TwoOperators.{words-count, words-few, words-length, words-left}
+use Rattle.texts.proofs.OneLine.{words-count, words-few, words-length, words-left}
 use borrow.Author.Needs.{needs}
 use Rattle.texts.proofs.two_operators.put_words.Statement.{statement}
 use Rattle.texts.proofs.two_operators.put_words.Tie as tie
