@@ -104,5 +104,5 @@ fn seed_from_clock() -> u64 {
 
 fn print_count(name: &str, count: u64, start: Instant) {
     let seconds = start.elapsed().as_secs_f64();
-    println!("{name:24} {count:11} comparisons {seconds:7.2} s");
+    println!("{name:26} {count:11} comparisons {seconds:7.2} s");
 }

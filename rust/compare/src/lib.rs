@@ -10,6 +10,7 @@
 //! | [`parts`] | the list of all comparisons |
 //! | [`command`] | the command line |
 //! | [`pem_h`] | the comparisons of the high-resolution head |
+//! | [`operators`] | the comparisons of two operators on one head |
 //! | the others | the comparisons |
 
 pub mod blocks;
@@ -27,6 +28,7 @@ mod list_case;
 pub mod list_limits;
 pub mod listed_plans;
 pub mod lists;
+pub mod operators;
 pub mod orders;
 pub mod parts;
 pub mod pem_h;
@@ -48,6 +50,7 @@ mod shorter_lists;
 mod shorter_texts;
 pub mod sides;
 pub mod states;
+mod step_case;
 pub mod steps;
 mod text_case;
 mod text_form;

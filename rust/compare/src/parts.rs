@@ -4,7 +4,7 @@ use crate::random::Random;
 use crate::reduce::Counted;
 use crate::sides::Sides;
 use crate::{blocks, codec, demand3, inspections, limits, list_limits, listed_plans, lists, plans};
-use crate::{pem_h, refusals, reports, steps, text_lists, unpacked, upper_bytes};
+use crate::{operators, pem_h, refusals, reports, steps, text_lists, unpacked, upper_bytes};
 
 pub type Compare = fn(&Sides, &mut Random, u32) -> Counted;
 
@@ -54,4 +54,12 @@ pub const PARTS: &[Part] = &[
     part("pixel map pictures", pem_h::pictures::pictures),
     part("PEM-H refusals", pem_h::refusals::in_words),
     part("PEM-H unpacked answers", pem_h::unpacked::answers),
+    part("groups", operators::groups::groups),
+    part("passing on", operators::passing::words),
+    part("observation", operators::observation::runs),
+    part("equal observations", operators::equal::pairs),
+    part("merging", operators::merging::lists),
+    part("merged texts", operators::merged_texts::texts),
+    part("operator refusals in words", operators::refusals::in_words),
+    part("operator unpacked answers", operators::unpacked::answers),
 ];

@@ -5,7 +5,7 @@ use shabgozim::MOST_LIST_BYTES;
 use std::collections::BTreeSet;
 
 /// Of a longer text no single bytes are left out or changed.
-const MOST_BYTES: usize = 400;
+pub const MOST_BYTES: usize = 400;
 const PLAIN: u8 = b'0';
 const SPACES: [char; 2] = [' ', '\n'];
 
@@ -15,7 +15,7 @@ pub fn shorter(text: &[u8]) -> Vec<Vec<u8>> {
     if text.len() <= MOST_BYTES {
         texts.extend(fewer_bytes(text));
         texts.extend(plainer_bytes(text));
-        texts.extend(lesser_numbers(text));
+        texts.extend(lesser_numbers([text]).into_iter().flatten());
     }
     texts.extend(cut_or_plain(text));
     texts
@@ -52,13 +52,14 @@ fn can_be_plainer(byte: u8) -> bool {
     byte.is_ascii_alphanumeric() && byte != PLAIN
 }
 
-/// A number made less wherever it stands.
-fn lesser_numbers(text: &[u8]) -> Vec<Vec<u8>> {
-    let text = String::from_utf8_lossy(text);
-    let parts: Vec<&str> = text.split_inclusive(SPACES).collect();
-    let numbers = parts.iter().map(|part| part.trim_end_matches(SPACES));
-    let numbers: BTreeSet<&str> = numbers.collect();
-    let mut texts = Vec::new();
+/// A number made less wherever it stands in any of these texts.
+pub fn lesser_numbers<const N: usize>(texts: [&[u8]; N]) -> Vec<[Vec<u8>; N]> {
+    let texts = texts.map(String::from_utf8_lossy);
+    let parts = texts.each_ref().map(|text| text.split_inclusive(SPACES));
+    let parts = parts.map(Iterator::collect::<Vec<&str>>);
+    let numbers = parts.iter().flatten();
+    let numbers: BTreeSet<&str> = numbers.map(|part| part.trim_end_matches(SPACES)).collect();
+    let mut lesser = Vec::new();
     for number in numbers {
         let value: u64 = number.parse().unwrap_or(0);
         for less in [0, value / 2].into_iter().filter(|&less| less < value) {
@@ -66,10 +67,11 @@ fn lesser_numbers(text: &[u8]) -> Vec<Vec<u8>> {
                 true => part.replace(number, &less.to_string()),
                 false => String::from(*part),
             };
-            texts.push(parts.iter().map(change).collect::<String>().into());
+            let changed = |parts: &Vec<&str>| parts.iter().map(change).collect::<String>();
+            lesser.push(parts.each_ref().map(|parts| changed(parts).into()));
         }
     }
-    texts
+    lesser
 }
 
 /// A text that is too long, by one byte alone; and with all bytes the same.

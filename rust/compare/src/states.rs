@@ -97,6 +97,11 @@ const TOGETHER: [&[usize]; 2] = [
     ],
 ];
 
+/// Places that count down.
+pub const COUNTS: [usize; 3] = [place::BUSY, place::MIRROR_MOTION, place::COVER_MOTION];
+/// What makes a count end sooner; none becomes 0.
+pub const SOONER: [fn(u16) -> u16; 2] = [|count| count.min(1), |count| count.div_ceil(2)];
+
 pub fn power_on() -> Numbers {
     paper::power_on().to_array()
 }
@@ -112,7 +117,8 @@ pub fn longest_times() -> Numbers {
     with(&power_on(), &times.map(|time| (time, MOST[time])))
 }
 
-fn with(base: &Numbers, changes: &[(usize, u16)]) -> Numbers {
+/// The state with other numbers at some places.
+pub fn with(base: &Numbers, changes: &[(usize, u16)]) -> Numbers {
     let mut numbers = *base;
     for &(place, value) in changes {
         numbers[place] = value;
@@ -251,11 +257,7 @@ pub fn shorter(state: &[u16]) -> Vec<Vec<u16>> {
     if state.len() != STATE_LENGTH {
         return Vec::new();
     }
-    let single: Vec<[usize; 1]> = (0..STATE_LENGTH).map(|place| [place]).collect();
-    let groups = TOGETHER
-        .into_iter()
-        .chain(single.iter().map(|one| one.as_slice()));
-    let nearer = groups.map(|group| {
+    let nearer = groups().map(|group| {
         let mut nearer = state.to_vec();
         group
             .iter()
@@ -263,6 +265,12 @@ pub fn shorter(state: &[u16]) -> Vec<Vec<u16>> {
         nearer
     });
     nearer.filter(|nearer| nearer != state).collect()
+}
+
+/// Places that go together, and then each place alone.
+pub fn groups() -> impl Iterator<Item = Vec<usize>> {
+    let single = (0..STATE_LENGTH).map(|place| vec![place]);
+    TOGETHER.into_iter().map(<[usize]>::to_vec).chain(single)
 }
 
 /// A state by its differences from power-on.

@@ -1,140 +1,16 @@
 //! Words, ticks and the other functions over a state.
 
-use crate::buffer::{difference, Buffer};
 use crate::random::Random;
-use crate::reduce::{failure, Case, Counted};
-use crate::sides::{Functions, Sides};
+use crate::reduce::{failure, Counted};
+use crate::sides::Sides;
 use crate::states;
+use crate::step_case::{steps_from, Pair, Step, StepCase};
 use crate::words::Words;
 use shabgozim::{place, STATE_LENGTH};
-use std::fmt;
 
-const MARGIN: u16 = 0xAAAA;
 const LONGEST_STATE: usize = 2 * STATE_LENGTH + 2;
 /// How many steps a run has.
 const RUN_LENGTH: u64 = 4000;
-
-/// One call over a state.
-#[derive(Clone, Copy, Debug, PartialEq, Eq)]
-enum Step {
-    PowerOn,
-    InRange,
-    Word(u16),
-    Tick,
-}
-
-/// One step from one state.
-struct StepCase {
-    state: Vec<u16>,
-    step: Step,
-}
-
-/// The same state lent to each side.
-struct Pair {
-    sides: Sides,
-    library: Buffer<u16>,
-    paper: Buffer<u16>,
-}
-
-impl Step {
-    fn make(self, side: &Functions, state: &mut [u16]) -> u32 {
-        match self {
-            Step::PowerOn => (side.power_on)(state),
-            Step::InRange => (side.in_range)(state),
-            Step::Word(word) => (side.word)(state, word),
-            Step::Tick => (side.tick)(state),
-        }
-    }
-
-    /// The same step with a word of less data.
-    fn shorter(self) -> Vec<Step> {
-        let Step::Word(word) = self else {
-            return Vec::new();
-        };
-        let (identifier, data) = (word & 0xFC00, word & 0x03FF);
-        let less = [0, data / 2, data.saturating_sub(1)];
-        let less = less.into_iter().filter(|&less| less < data);
-        less.map(|less| Step::Word(identifier | less)).collect()
-    }
-}
-
-impl Pair {
-    fn of(sides: &Sides, state: &[u16]) -> Pair {
-        let library = Buffer::holding(state, MARGIN);
-        let paper = library.clone();
-        Pair {
-            sides: *sides,
-            library,
-            paper,
-        }
-    }
-
-    fn reset(&mut self, state: &Buffer<u16>) {
-        self.library.copy_from(state);
-        self.paper.copy_from(state);
-    }
-
-    /// Makes the step on both sides; gives both answers.
-    fn answers(&mut self, step: Step) -> (u32, u32) {
-        let answer = step.make(&self.sides.library, self.library.lent());
-        (answer, step.make(&self.sides.paper, self.paper.lent()))
-    }
-
-    /// Makes the step on both sides; whether answer and every place agree.
-    fn agree(&mut self, step: Step) -> bool {
-        let (answer, expected) = self.answers(step);
-        answer == expected && self.library == self.paper
-    }
-}
-
-impl Case for StepCase {
-    fn difference(&self, sides: &Sides) -> Option<String> {
-        let mut pair = Pair::of(sides, &self.state);
-        let (answer, expected) = pair.answers(self.step);
-        if answer != expected {
-            return Some(format!("answer: library {answer:#X}, paper {expected:#X}"));
-        }
-        difference("state", &pair.library, &pair.paper)
-    }
-
-    fn shorter(&self) -> Vec<StepCase> {
-        let step = self.step;
-        let states = states::shorter(&self.state).into_iter();
-        let nearer = states.map(|state| StepCase { state, step });
-        let steps = step.shorter().into_iter();
-        let lesser = steps.map(|step| StepCase {
-            state: self.state.clone(),
-            step,
-        });
-        nearer.chain(lesser).collect()
-    }
-}
-
-impl fmt::Display for StepCase {
-    fn fmt(&self, out: &mut fmt::Formatter) -> fmt::Result {
-        let state = states::describe(&self.state);
-        match self.step {
-            Step::Word(word) => write!(out, "word {word:04X} from {state}"),
-            step => write!(out, "{step:?} from {state}"),
-        }
-    }
-}
-
-/// Compares some steps, each from the same state.
-fn steps_from(sides: &Sides, state: &[u16], steps: impl Iterator<Item = Step>) -> Counted {
-    let given = Buffer::holding(state, MARGIN);
-    let mut pair = Pair::of(sides, state);
-    let mut count = 0;
-    for step in steps {
-        pair.reset(&given);
-        if !pair.agree(step) {
-            let state = state.to_vec();
-            return Err(failure(sides, StepCase { state, step }));
-        }
-        count += 1;
-    }
-    Ok(count)
-}
 
 fn all_words() -> impl Iterator<Item = Step> {
     (0..=u16::MAX).map(Step::Word)
@@ -148,7 +24,8 @@ pub fn words_from_states(sides: &Sides, random: &mut Random, times: u32) -> Coun
     }
     for _ in 0..times {
         for state in states::at_limits(&states::in_range(random)) {
-            count += steps_from(sides, &state, words_of_each_kind(random).into_iter())?;
+            let words = words_of_each_kind(random).into_iter();
+            count += steps_from(sides, &state, words.map(Step::Word))?;
         }
         for _ in 0..150 {
             count += steps_from(sides, &states::in_range(random), all_words())?;
@@ -162,10 +39,10 @@ pub fn words_from_states(sides: &Sides, random: &mut Random, times: u32) -> Coun
 }
 
 /// Some words of each of the 64 identifiers.
-fn words_of_each_kind(random: &mut Random) -> Vec<Step> {
+pub fn words_of_each_kind(random: &mut Random) -> Vec<u16> {
     let words = (0..64).flat_map(|identifier| [identifier << 10; 8]);
     let words = words.map(|word| word | random.within(0, 0x3FF) as u16);
-    words.map(Step::Word).collect()
+    words.collect()
 }
 
 /// Range, tick and power-on with every number at every place.

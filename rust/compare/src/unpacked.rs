@@ -158,8 +158,8 @@ fn inspection(paper: &Typed, words: &[u16], ticks: &[u32]) -> Counted {
     same(&states::power_on(), found, expected)
 }
 
-/// The number of an outcome in a list.
-fn number_of(outcome: Outcome) -> u16 {
+/// The number of an outcome, as in a list.
+pub fn number_of(outcome: Outcome) -> u16 {
     match outcome {
         Outcome::Taken(Act::None) => 0,
         Outcome::Taken(Act::Exposure) => 1,

@@ -27,6 +27,18 @@ impl Words {
         words[random.within(0, words.len() as i32 - 1) as usize]
     }
 
+    /// One of the first few allowed words of a kind.
+    pub fn least(&self, random: &mut Random, kind: u8) -> u16 {
+        const FEW: usize = 3;
+        let words = &self.allowed[usize::from(kind)];
+        words[random.below(words.len().min(FEW))]
+    }
+
+    /// The word that a head with so many words of a mirror set waits for.
+    pub fn next_mirror_word(&self, random: &mut Random, set_words: u16) -> u16 {
+        self.of_kind(random, next_mirror_kind(set_words))
+    }
+
     /// An allowed word of any kind.
     pub fn allowed(&self, random: &mut Random) -> u16 {
         let kind = random.below(KIND_COUNT) as u8;
@@ -38,7 +50,7 @@ impl Words {
         match random.below(16) {
             0 => random.number(),
             1 => self.nearly_allowed(random),
-            2..=5 => self.of_kind(random, next_mirror_kind(set_words)),
+            2..=5 => self.next_mirror_word(random, set_words),
             6 => self.of_kind(random, kind::STOP),
             _ => self.allowed(random),
         }

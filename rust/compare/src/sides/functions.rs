@@ -1,6 +1,6 @@
 //! The functions of a side as values, so that a test can replace one of them.
 
-use super::{Library, Paper, Shown, Side, Typed};
+use super::{Library, Merged, Paper, Shown, Side, Typed};
 
 /// State, words, their ticks, and the buffer for outcomes.
 pub type List = fn(&mut [u16], &[u16], &[u32], &mut [u16]) -> u32;
@@ -17,6 +17,10 @@ pub type Refusal = fn(u8, u32, &[u8], &mut [u8]) -> u32;
 pub type ReadList = fn(&[u8], &mut [u16], &mut [u32]) -> u64;
 /// Words, their ticks, and the buffer for the text.
 pub type Inspection = fn(&[u16], &[u32], &mut [u8]) -> u64;
+/// The CCD operator's list, the infrared operator's, and the buffer for entries.
+pub type Merge = fn(&[u64], &[u64], &mut [u64]) -> Merged;
+/// The CCD operator's text, the infrared operator's, and the buffer for the text.
+pub type MergeTexts = fn(&[u8], &[u8], &mut [u8]) -> u64;
 
 /// The functions of [`Side`].
 #[derive(Clone, Copy)]
@@ -47,6 +51,11 @@ pub struct Functions {
     pub h_encode: fn(u8, u16) -> u32,
     pub h_picture: fn(&[u8], &mut [u8]) -> u64,
     pub h_refusal: fn(u8, &mut [u8]) -> u32,
+    pub group: fn(u8) -> u32,
+    pub pass_on: fn(&mut [u16], u8, u16) -> u32,
+    pub merge: Merge,
+    pub merge_texts: MergeTexts,
+    pub operator_refusal: fn(u8, &mut [u8]) -> u32,
 }
 
 /// The two sides of a comparison.
@@ -87,6 +96,11 @@ impl Functions {
             h_encode: S::h_encode,
             h_picture: S::h_picture,
             h_refusal: S::h_refusal,
+            group: S::group,
+            pass_on: S::pass_on,
+            merge: S::merge,
+            merge_texts: S::merge_texts,
+            operator_refusal: S::operator_refusal,
         }
     }
 }

@@ -1,7 +1,6 @@
 //! The verified library, through its wrapper.
 
-use super::Shown;
-use super::Side;
+use super::{Merged, Shown, Side};
 use shabgozim::raw;
 
 pub struct Library;
@@ -109,5 +108,25 @@ impl Side for Library {
 
     fn h_refusal(number: u8, text: &mut [u8]) -> u32 {
         raw::h_refusal(number, text)
+    }
+
+    fn group(kind: u8) -> u32 {
+        raw::group(kind)
+    }
+
+    fn pass_on(state: &mut [u16], operator: u8, word: u16) -> u32 {
+        raw::pass_on(state, operator, word)
+    }
+
+    fn merge(ccd: &[u64], infrared: &[u64], merged: &mut [u64]) -> Merged {
+        raw::merge(ccd, infrared, merged)
+    }
+
+    fn merge_texts(ccd: &[u8], infrared: &[u8], text: &mut [u8]) -> u64 {
+        raw::merge_texts(ccd, infrared, text)
+    }
+
+    fn operator_refusal(number: u8, text: &mut [u8]) -> u32 {
+        raw::operator_refusal(number, text)
     }
 }

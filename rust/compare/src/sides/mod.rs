@@ -6,12 +6,14 @@ mod library;
 mod paper;
 mod paper_blocks;
 mod paper_h;
+mod paper_operators;
 mod paper_texts;
 mod typed;
 
 pub use functions::{Functions, List, Sides};
 pub use library::Library;
 pub use paper::Paper;
+pub use shabgozim::raw::Merged;
 pub use typed::Typed;
 
 pub trait Side {
@@ -46,6 +48,12 @@ pub trait Side {
     fn h_encode(request: u8, value: u16) -> u32;
     fn h_picture(map: &[u8], text: &mut [u8]) -> u64;
     fn h_refusal(number: u8, text: &mut [u8]) -> u32;
+
+    fn group(kind: u8) -> u32;
+    fn pass_on(state: &mut [u16], operator: u8, word: u16) -> u32;
+    fn merge(ccd: &[u64], infrared: &[u64], merged: &mut [u64]) -> Merged;
+    fn merge_texts(ccd: &[u8], infrared: &[u8], text: &mut [u8]) -> u64;
+    fn operator_refusal(number: u8, text: &mut [u8]) -> u32;
 }
 
 /// What a writer is given besides state and readings.

@@ -3,7 +3,8 @@
 //! The `paper_` functions are never inlined and keep their names, so that
 //! instruction counts can be taken of each.
 
-use super::{paper_blocks as blocks, paper_h as h, paper_texts as texts, Shown, Side};
+use super::{paper_blocks as blocks, paper_h as h, paper_operators as operators};
+use super::{paper_texts as texts, Merged, Shown, Side};
 use paper::state::STATE_LENGTH;
 use paper::{Decoded, ErrorFlags, State, Task, Ticked};
 
@@ -117,9 +118,29 @@ impl Side for Paper {
     fn h_refusal(number: u8, text: &mut [u8]) -> u32 {
         h::refusal(number, text)
     }
+
+    fn group(kind: u8) -> u32 {
+        operators::paper_group(kind)
+    }
+
+    fn pass_on(state: &mut [u16], operator: u8, word: u16) -> u32 {
+        operators::paper_pass_on(state, operator, word)
+    }
+
+    fn merge(ccd: &[u64], infrared: &[u64], merged: &mut [u64]) -> Merged {
+        operators::paper_merge(ccd, infrared, merged)
+    }
+
+    fn merge_texts(ccd: &[u8], infrared: &[u8], text: &mut [u8]) -> u64 {
+        operators::merge_texts(ccd, infrared, text)
+    }
+
+    fn operator_refusal(number: u8, text: &mut [u8]) -> u32 {
+        operators::refusal(number, text)
+    }
 }
 
-fn places(state: &mut [u16]) -> Option<&mut [u16; STATE_LENGTH]> {
+pub fn places(state: &mut [u16]) -> Option<&mut [u16; STATE_LENGTH]> {
     state.try_into().ok()
 }
 

@@ -4,6 +4,7 @@
 use paper::blocks::{CCD_READINGS, IR_READINGS};
 use paper::pem_h;
 use paper::{BlockRefusal, CcdMeaning, ErrorFlags, IrCallerBits, IrMeaning};
+use paper::{BusyTicks, Merged, Observation, TextsRefusal, Tick};
 use paper::{Inspection, Outcome, Refusal, State, TextList, TextRefusal, Ticked, Translated};
 
 #[derive(Clone, Copy)]
@@ -23,8 +24,17 @@ pub struct Typed {
     pub h_decode: fn(u16) -> Result<pem_h::Read, pem_h::Refusal>,
     pub h_encode: fn(u8, u16) -> Result<u16, pem_h::Refusal>,
     pub h_map: fn(&[u8]) -> Result<pem_h::PixelMap, pem_h::Refusal>,
+    pub group: fn(u8) -> u8,
+    pub pass_on: fn(&mut State, u8, u16) -> u16,
+    pub observe: fn(&State, &[Tick]) -> Observation,
+    pub busy_ticks: fn(&State, &[Tick]) -> BusyTicks,
+    pub merge: Merge,
+    pub merge_texts: MergeTexts,
+    pub operator_refusal: fn(u8) -> Option<Vec<u8>>,
 }
 
+pub type Merge = fn(&[u64], &[u64], usize) -> Result<Merged, u8>;
+pub type MergeTexts = fn(&[u8], &[u8]) -> Result<Vec<u8>, TextsRefusal>;
 pub type WriteIr =
     fn(&State, &ErrorFlags, bool, &[u16; IR_READINGS], IrCallerBits, &mut [u16]) -> u16;
 pub type WriteCcd = fn(&State, &ErrorFlags, bool, &[u16; CCD_READINGS], bool, &mut [u16]) -> u16;
@@ -46,5 +56,12 @@ impl Typed {
         h_decode: pem_h::decode,
         h_encode: pem_h::encode,
         h_map: pem_h::PixelMap::of,
+        group: paper::group_number,
+        pass_on: paper::pass_on,
+        observe: paper::observe,
+        busy_ticks: paper::busy_ticks,
+        merge: paper::merge,
+        merge_texts: paper::merge_texts,
+        operator_refusal: paper::operator_refusal,
     };
 }

@@ -5,6 +5,11 @@ mod blocks;
 mod fault;
 mod inspections;
 mod lists;
+mod merged_texts;
+mod merging;
+mod observations;
+mod operators;
+mod passing;
 mod pem_h;
 mod pixel_maps;
 mod plans;
@@ -61,6 +66,31 @@ fn faults_in_pixel_maps_are_found() {
 }
 
 #[test]
+fn faults_in_passing_on_are_found() {
+    passing::FAULTS.iter().for_each(Fault::must_be_found);
+}
+
+#[test]
+fn faults_in_answers_about_operators_are_found() {
+    operators::FAULTS.iter().for_each(Fault::must_be_found);
+}
+
+#[test]
+fn faults_in_observations_are_found() {
+    observations::FAULTS.iter().for_each(Fault::must_be_found);
+}
+
+#[test]
+fn faults_in_merging_are_found() {
+    merging::FAULTS.iter().for_each(Fault::must_be_found);
+}
+
+#[test]
+fn faults_in_merged_texts_are_found() {
+    merged_texts::FAULTS.iter().for_each(Fault::must_be_found);
+}
+
+#[test]
 #[should_panic(expected = "not found in 65536 comparisons")]
 fn without_a_fault_nothing_is_found() {
     let no_fault = Fault {
@@ -82,6 +112,11 @@ fn every_part_has_a_fault_to_find() {
         blocks::FAULTS,
         pem_h::FAULTS,
         pixel_maps::FAULTS,
+        passing::FAULTS,
+        operators::FAULTS,
+        observations::FAULTS,
+        merging::FAULTS,
+        merged_texts::FAULTS,
     ]
     .concat();
     for part in PARTS {
