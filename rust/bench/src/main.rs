@@ -5,6 +5,7 @@ mod counting;
 mod measured;
 mod plain_list;
 mod plain_map;
+mod plain_merge;
 mod timing;
 mod workloads;
 
@@ -47,7 +48,8 @@ The table is made by `cargo run --release -p bench` in `rust/`, which builds bot
 
 `paper`'s own list goes tick by tick. In the rows about lists its place is taken by plain Rust that does what the library is free to do
 (`rust/bench/src/plain_list.rs`): the state's range is judged once for a list, and a gap of any length passes at once. In the rows about pixel maps
-it is taken by plain Rust that counts the ones of each byte (`rust/bench/src/plain_map.rs`); `paper` visits every pixel.
+it is taken by plain Rust that counts the ones of each byte (`rust/bench/src/plain_map.rs`); `paper` visits every pixel. In the row about merging it is taken
+by plain Rust that goes through both lists (`rust/bench/src/plain_merge.rs`); `paper` filters and sorts.
 
 Instructions per call are counted inside the measured functions by callgrind and are the same in every run. The time ratio is the median, with
 quartiles, over repeats in which the two sides take turns. Nanoseconds are for scale only.

@@ -2,8 +2,9 @@
 
 use crate::plain_list::plain_list;
 use crate::plain_map::{plain_h_lighted, plain_h_readout};
-use crate::workloads::{DecodedWords, Decoder, GivenWords, Lists, Maps, MixedRun, ReadBlocks};
-use crate::workloads::{Ticks, Translations, Workload, WrittenBlocks};
+use crate::plain_merge::plain_merge;
+use crate::workloads::{DecodedWords, Decoder, GivenWords, Lists, Maps, Merges, MixedRun};
+use crate::workloads::{PassedWords, ReadBlocks, Ticks, Translations, Workload, WrittenBlocks};
 use compare::blocks::Block;
 use compare::sides::{Library, Paper, Side};
 use shabgozim::{raw, MOST_WORDS};
@@ -63,8 +64,8 @@ impl Row {
         }
     }
 
-    /// Pixel maps, against plain Rust.
-    const fn maps(
+    /// Pixel maps and merging, against plain Rust.
+    const fn plain(
         name: &'static str,
         functions: &'static [&'static str],
         prepare: fn() -> Prepared,
@@ -124,6 +125,17 @@ impl Prepared {
         }
     }
 
+    /// Merging, by the library and by plain Rust.
+    fn of_merges(mut merges: Merges) -> Prepared {
+        Prepared {
+            calls: merges.calls(),
+            pass: Box::new(move |which| match which {
+                Which::Library => merges.pass(raw::merge),
+                Which::Paper => merges.pass(plain_merge),
+            }),
+        }
+    }
+
     /// Makes every call once; gives the sum of the answers.
     pub fn pass(&mut self, which: Which) -> u64 {
         (self.pass)(which)
@@ -139,6 +151,9 @@ pub const ROWS: &[Row] = &[
         Prepared::of(DecodedWords::new(Decoder::ByUpperByte))
     }),
     Row::new("word", &["word"], || Prepared::of(GivenWords::new())),
+    Row::new("word passed on", &["pass_on"], || {
+        Prepared::of(PassedWords::new())
+    }),
     Row::new("tick", &["tick"], || Prepared::of(Ticks::new())),
     Row::new("words and ticks mixed", &["word", "tick"], || {
         Prepared::of(MixedRun::new())
@@ -188,10 +203,13 @@ pub const ROWS: &[Row] = &[
     Row::new("read CCD block", &["read_ccd"], || {
         Prepared::of(ReadBlocks::new(Block::Ccd))
     }),
-    Row::maps("lighted pixels of a map", &["h_lighted"], || {
+    Row::plain("lighted pixels of a map", &["h_lighted"], || {
         Prepared::of_maps(raw::h_lighted, plain_h_lighted)
     }),
-    Row::maps("readout time of a map", &["h_readout"], || {
+    Row::plain("readout time of a map", &["h_readout"], || {
         Prepared::of_maps(raw::h_readout, plain_h_readout)
+    }),
+    Row::plain("merge two lists of 256 entries", &["merge"], || {
+        Prepared::of_merges(Merges::new())
     }),
 ];

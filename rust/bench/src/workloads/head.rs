@@ -15,6 +15,11 @@ pub struct GivenWords {
     words: Vec<u16>,
 }
 
+/// The same words from both operators in turn, many of them not passed on.
+pub struct PassedWords {
+    given: GivenWords,
+}
+
 /// Ticks of the longest acquisition, both motions ending within it.
 pub struct Ticks {
     state: Numbers,
@@ -67,6 +72,34 @@ impl Workload for GivenWords {
         let state = &mut self.state;
         let give = |&word| u64::from(S::word(black_box(&mut state[..]), black_box(word)));
         self.words.iter().map(give).sum()
+    }
+}
+
+impl PassedWords {
+    pub fn new() -> PassedWords {
+        PassedWords {
+            given: GivenWords::new(),
+        }
+    }
+}
+
+impl Workload for PassedWords {
+    fn calls(&self) -> usize {
+        2 * self.given.calls()
+    }
+
+    fn pass<S: Side>(&mut self) -> u64 {
+        let state = &mut self.given.state;
+        let mut pass = |word, operator| {
+            let operator = black_box(operator);
+            u64::from(S::pass_on(
+                black_box(&mut state[..]),
+                operator,
+                black_box(word),
+            ))
+        };
+        let words = self.given.words.iter();
+        words.map(|&word| pass(word, 0) + pass(word, 1)).sum()
     }
 }
 

@@ -4,13 +4,15 @@ mod blocks;
 mod head;
 mod lists;
 mod maps;
+mod merges;
 mod plans;
 mod words;
 
 pub use blocks::{ReadBlocks, WrittenBlocks};
-pub use head::{GivenWords, MixedRun, Ticks};
+pub use head::{GivenWords, MixedRun, PassedWords, Ticks};
 pub use lists::Lists;
 pub use maps::Maps;
+pub use merges::Merges;
 pub use plans::Translations;
 pub use words::{DecodedWords, Decoder};
 
