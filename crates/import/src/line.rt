@@ -120,7 +120,7 @@ fn is_timed(line: &[u8], tick: u32, word: u16) -> bool
     ensures { λ r. ⌜ r ≡ isText (now (line .entry)) (timedText tick word) ⌝ }
 {
     let mut printed = [0u8; 32];
-    let length = put_timed(&mut printed, 0, tick, word);
+    let length = put_timed(&mut printed, 0, tick as u64, word);
     is_text(line, &printed[..length])
 }
 

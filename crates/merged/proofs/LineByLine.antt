@@ -7,22 +7,18 @@ use native.Mathlib.Numerals.{add-one}
 use native.Mathlib.Omega.{arith}
 use lib.ListN.{length, getD, drop, length-append, drop-of-length-le}
 use lib.Seq.{drop-cons}
-use Rattle.layout.specs.Numbers.{ascii, decimalOf, hexOf}
+use Rattle.layout.specs.Numbers.{ascii, hexOf}
 use Rattle.layout.specs.Written.{Written}
 use Rattle.layout.proofs.Digits.{decimal-long}
-use Rattle.layout.proofs.Writing.{written-four, Partly, partly-first, partly-next, partly-done}
+use Rattle.layout.proofs.Writing.{Partly, partly-first, partly-next, partly-done}
 use Rattle.text.specs.Lines.{timedText, wordLine}
 use Rattle.merge.specs.Merge.{tickIn, wordIn}
 use Rattle.merged.specs.Text.{entryLines}
 
--- tick, blank, word and newline
-pub line-written : (e : ℕ) {t : ℕ} → t ≡ tickIn e → {l : List ℕ} {at p : ℕ} {m : List ℕ} → Written l at (decimalOf t) p m
-    → {q : ℕ} {n : List ℕ} → Written m p (ascii " ") q n
-    → {hex : List ℕ} → hex ≡ hexOf (wordIn e) → {r : ℕ} {o : List ℕ} → Written n q hex r o
-    → {s : ℕ} {k : List ℕ} → Written o r (ascii "\n") s k
-    → Written l at (wordLine (tickIn e) (wordIn e)) s k
-unfolding wordLine timedText
-line-written e is a b digits c d = written-four (rw is at a) b (rw digits at c) d
+-- the line of an entry is that of its tick and word
+pub line-written : (e : ℕ) {t : ℕ} → t ≡ tickIn e → {l : List ℕ} {at p : ℕ} {m : List ℕ} → Written l at (wordLine t (wordIn e)) p m
+    → Written l at (wordLine (tickIn e) (wordIn e)) p m
+line-written e is w = rw is at w
 
 lines-next : (es : List ℕ) (i : ℕ) → i < length es
     → entryLines (drop i es) ≡ wordLine (tickIn (getD es i 0)) (wordIn (getD es i 0)) ++ entryLines (drop (i + 1) es)

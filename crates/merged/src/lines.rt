@@ -1,9 +1,7 @@
 // Entries as the lines of a text list.
-use layout::bytes::put_bytes;
 use layout::bytes::within;
-use layout::numbers::hex4;
-use layout::numbers::put_decimal;
 use merge::tick_in;
+use text::lines::put_timed_line;
 ghost use Rattle.layout.specs.Written.{Written};
 ghost use Rattle.text.specs.Lines.{wordLine};
 ghost use Rattle.merge.specs.Merge.{tickIn, wordIn};
@@ -13,10 +11,7 @@ fn put_entry_line(out: &mut [u8], at: usize, entry: u64) -> usize
     ensures { λ r. ⌜ Written (now (out .entry)) at (wordLine (tickIn entry) (wordIn entry)) r (now (out .exit)) ⌝ }
 {
     let word = (entry % 65536) as u16;
-    let blank = put_decimal(out, at, tick_in(entry));
-    let digits = put_bytes(out, blank, b" ");
-    let end = put_bytes(out, digits, &hex4(word));
-    put_bytes(out, end, b"\n")
+    put_timed_line(out, at, tick_in(entry), word)
 }
 
 // A line for each entry.

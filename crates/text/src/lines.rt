@@ -10,19 +10,26 @@ ghost use Rattle.layout.specs.Written.{Written, Front};
 ghost use Rattle.text.specs.Lines.{timedText, wordLine, wordLines, endLine, refusalLine};
 
 // A tick and its word.
-pub fn put_timed(out: &mut [u8], at: usize, tick: u32, word: u16) -> usize
+pub fn put_timed(out: &mut [u8], at: usize, tick: u64, word: u16) -> usize
     ensures { λ r. ⌜ Written (now (out .entry)) at (timedText tick word) r (now (out .exit)) ⌝ }
 {
-    let after_tick = put_decimal(out, at, tick as u64);
+    let after_tick = put_decimal(out, at, tick);
     let digits = put_bytes(out, after_tick, b" ");
     put_bytes(out, digits, &hex4(word))
+}
+
+// The same as a line.
+pub fn put_timed_line(out: &mut [u8], at: usize, tick: u64, word: u16) -> usize
+    ensures { λ r. ⌜ Written (now (out .entry)) at (wordLine tick word) r (now (out .exit)) ⌝ }
+{
+    let after = put_timed(out, at, tick, word);
+    put_bytes(out, after, b"\n")
 }
 
 fn put_word_line(out: &mut [u8], at: usize, tick: u32, word: u16) -> usize
     ensures { λ r. ⌜ Written (now (out .entry)) at (wordLine tick word) r (now (out .exit)) ⌝ }
 {
-    let after = put_timed(out, at, tick, word);
-    put_bytes(out, after, b"\n")
+    put_timed_line(out, at, tick as u64, word)
 }
 
 // A line for each of the first count ticks and words.

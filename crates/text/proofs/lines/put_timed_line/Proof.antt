@@ -1,10 +1,10 @@
--- `text::lines::put_word_line` meets its contract.
+-- `text::lines::put_timed_line` meets its contract.
 -- Assumes nothing.
 use Rattle.layout.specs.Numbers.{ascii}
 use Rattle.text.proofs.Printing.{word-line}
 use borrow.Author.Needs.{needs}
-use Rattle.text.proofs.lines.put_word_line.Statement.{statement}
-use Rattle.text.proofs.lines.put_word_line.Tie as tie
+use Rattle.text.proofs.lines.put_timed_line.Statement.{statement}
+use Rattle.text.proofs.lines.put_timed_line.Tie as tie
 
 put-timed-requires : tie.Need-put-timed-requires
 put-timed-requires c κs = search needs
@@ -22,8 +22,8 @@ returns : tie.Need-returns
 unfolding ascii
 returns c = search (needs, word-line)
 
-pub put-word-line-spec : {M : Type 1} → statement M
-put-word-line-spec =
+pub put-timed-line-spec : {M : Type 1} → statement M
+put-timed-line-spec =
     tie.close
     (tie.spec
     put-timed-requires
