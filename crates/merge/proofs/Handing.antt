@@ -15,14 +15,14 @@ use lib.ListN.{length, take, drop, length-drop}
 use lib.Seq.{drop-length, take-all}
 use Rattle.words.specs.Kinds.{ccd, infrared}
 use Rattle.merge.specs.Merge.{mergedPart}
-use Rattle.merge.specs.Answer.{ccdCount, infraredCount, mergingOf, mergingNumber, mergedCount, mergedOf}
+use Rattle.merge.specs.Answer.{ccdCount, infraredCount, mergingOf, mergeNumber, mergingNumber, mergedCount, mergedOf}
 use Rattle.merge.specs.Answer.{restAfter, restList, restStart, outputAfter}
 use Rattle.merge.specs.declared.answer.Merging.{Merging}
 use Rattle.merge.specs.declared.answer.Merging.the-variants.{Done, NotRising, SameTick, TooShort}
 use Rattle.merge.specs.declared.answer.Merged.{Merged}
 use Rattle.merge.proofs.answer.Merging.{the-type}
 use Rattle.merge.proofs.Rests.{rest-ccd, rest-infrared, count-ccd-few, count-infrared-few}
-use Rattle.merge.proofs.Answers.{by-answer}
+use Rattle.merge.proofs.Answers.{by-answer, merging-number}
 
 -- the ways through `told`
 pub told-fits : {a : Merging} {room : ℕ} → mergedCount a ≤ room → Fits w64 room → {n m : ℕ} → a ≡ Done n m → Fits w64 (n + m)
@@ -110,6 +110,10 @@ module _ (xs ys : List ℕ) where
 module _ (xs ys : List ℕ) (room : ℕ) {a : Merging} (answer : a ≡ mergingOf xs ys room) where
   pub counted-told : {t : Merged} → t ≡ mergedOf a xs ys → t ≡ mergedOf (mergingOf xs ys room) xs ys
   counted-told told = rw answer at told
+
+  pub counted-number : {t : Merged} → t ≡ mergedOf a xs ys → t .number ≡ mergeNumber xs ys room
+  unfolding mergedOf
+  counted-number told = ap (λ (r : Merged). r .number) told ∙ merging-number xs ys room answer
 
   pub counted-output : (old : List ℕ) {new : List ℕ} → new ≡ outputAfter a (mergedPart xs ys) old
       → new ≡ outputAfter (mergingOf xs ys room) (mergedPart xs ys) old

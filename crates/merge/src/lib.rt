@@ -78,6 +78,7 @@ pub fn merging(ccd: &[u64], infrared: &[u64], room: usize) -> Merging
 // Merges into the output by tick until one list runs out. A refusal writes nothing.
 pub fn merge_into(ccd: &[u64], infrared: &[u64], merged: &mut [u64]) -> Merging
     ensures { λ r. ⌜ r ≡ mergingOf (now (ccd .entry)) (now (infrared .entry)) (length (now (merged .entry))) ⌝ }
+    ensures { λ r. ⌜ mergingNumber r ≡ mergeNumber (now (ccd .entry)) (now (infrared .entry)) (length (now (merged .entry))) ⌝ }
     ensures { λ r. ⌜ now (merged .exit) ≡ outputAfter r (mergedPart (now (ccd .entry)) (now (infrared .entry))) (now (merged .entry)) ⌝ }
 {
     let answer = merging(ccd, infrared, merged.len());
@@ -91,7 +92,8 @@ pub fn merge_into(ccd: &[u64], infrared: &[u64], merged: &mut [u64]) -> Merging
 // The same, with the answer in numbers.
 pub fn merge_counted(ccd: &[u64], infrared: &[u64], merged: &mut [u64]) -> Merged
     ensures { λ r. ⌜ r ≡ mergedOf (mergingOf (now (ccd .entry)) (now (infrared .entry)) (length (now (merged .entry)))) (now (ccd .entry)) (now (infrared .entry)) ⌝ }
-    ensures { λ r. ⌜ now (merged .exit) ≡ outputAfter (mergingOf (now (ccd .entry)) (now (infrared .entry)) (length (now (merged .entry)))) (mergedPart (now (ccd .entry)) (now (infrared .entry))) (now (merged .entry)) ⌝ }
+    ensures { λ r. ⌜ r .number ≡ mergeNumber (now (ccd .entry)) (now (infrared .entry)) (length (now (merged .entry))) ⌝ }
+    ensures { λ _. ⌜ now (merged .exit) ≡ outputAfter (mergingOf (now (ccd .entry)) (now (infrared .entry)) (length (now (merged .entry)))) (mergedPart (now (ccd .entry)) (now (infrared .entry))) (now (merged .entry)) ⌝ }
 {
     let room = merged.len();
     let answer = merge_into(ccd, infrared, merged);

@@ -2,7 +2,7 @@
 -- Assumes nothing.
 use borrow.Author.Needs.{needs}
 use Rattle.merge.proofs.Answers.{count-few}
-use Rattle.merge.proofs.Handing.{counted-told, counted-output}
+use Rattle.merge.proofs.Handing.{counted-told, counted-number, counted-output}
 use Rattle.merge.proofs.merge_counted.Statement.{statement}
 use Rattle.merge.proofs.merge_counted.Tie as tie
 
@@ -16,7 +16,7 @@ same-length : tie.Need-same-length
 same-length c = search needs
 
 returns : tie.Need-returns
-returns c = search (needs, counted-told, counted-output)
+returns c = search (needs, counted-told, counted-number, counted-output)
 
 pub merge-counted-spec : {M : Type 1} → statement M
 merge-counted-spec = tie.close (tie.spec merge-into-requires told-requires same-length returns)

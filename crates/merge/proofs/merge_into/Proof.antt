@@ -21,7 +21,7 @@ same-length : tie.Need-same-length
 same-length c = search needs
 
 returns-2 : tie.Need-returns-2
-returns-2 c = search (needs, output-done)
+returns-2 c = (search needs, (search needs, search (needs, output-done)))
 
 pub merge-into-spec : {M : Type 1} → statement M
 merge-into-spec = tie.close (tie.spec merging-requires number-requires returns write-requires same-length returns-2)
