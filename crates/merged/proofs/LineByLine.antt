@@ -30,21 +30,21 @@ unfolding entryLines
 lines-none es i all = rw (drop-of-length-le es all)
 
 -- the lines from the ith on are left
-pub record Lining (old : List ℕ) (at : ℕ) (es new : List ℕ) (place i : ℕ) : Type 0 where
+pub record LinesLeft (old : List ℕ) (at : ℕ) (es new : List ℕ) (place i : ℕ) : Type 0 where
   pub few : i ≤ length es
   pub part : Partly old at (entryLines es) (entryLines (drop i es)) new place
 
 module _ {old : List ℕ} {at : ℕ} {es : List ℕ} {place : ℕ} where
-  pub lining-first : place ≡ min at (length old) → Lining old at es old place 0
-  lining-first h = record { few = omega arith; part = partly-first h }
+  pub lines-left-first : place ≡ min at (length old) → LinesLeft old at es old place 0
+  lines-left-first h = record { few = omega arith; part = partly-first h }
 
-  module _ {new : List ℕ} {i : ℕ} (h : Lining old at es new place i) where
-    pub lining-next : i < length es → {new' : List ℕ} {place' : ℕ}
-        → Written new place (wordLine (tickIn (getD es i 0)) (wordIn (getD es i 0))) place' new' → Lining old at es new' place' (i + 1)
-    lining-next more line = record { few = omega arith; part = partly-next (h .part) (lines-next es i more) line }
+  module _ {new : List ℕ} {i : ℕ} (h : LinesLeft old at es new place i) where
+    pub lines-left-next : i < length es → {new' : List ℕ} {place' : ℕ}
+        → Written new place (wordLine (tickIn (getD es i 0)) (wordIn (getD es i 0))) place' new' → LinesLeft old at es new' place' (i + 1)
+    lines-left-next more line = record { few = omega arith; part = partly-next (h .part) (lines-next es i more) line }
 
-    pub lined : length es ≤ i → Written old at (entryLines es) place new
-    lined all = partly-done (h .part) (lines-none es i all)
+    pub lines-written : length es ≤ i → Written old at (entryLines es) place new
+    lines-written all = partly-done (h .part) (lines-none es i all)
 
 -- the lines of two lists one after another
 pub lines-append : (xs ys : List ℕ) → entryLines (xs ++ ys) ≡ entryLines xs ++ entryLines ys
