@@ -1,6 +1,8 @@
 // Bit fields of a 16-bit word, placed and read by a table. It has a row for each field: its lowest bit and its width, bit 0 being the
 // word's lowest. Any table may be given: what a field would have above bit 15 is lost, and where fields share a bit their values are
 // added.
+#![tactic(auto)]
+
 ghost use Rattle.std.specs.Prelude.{◌≡◌, ◌+◌, ◌%◌, ◌^◌, min, length};
 ghost use Rattle.std.proofs.Math.Seq.{paste};
 ghost use Rattle.bitfields.specs.Fields.{placed_in, composed, value_in, values_in, word_bits};

@@ -19,12 +19,12 @@ pub const CCD_READINGS: usize = 16;
 const MOST_COSINE: u16 = 4095;
 
 // The bits of the flag word that the caller gives.
-#[derive(Drop)]
+#[derive(Clone, Copy)]
 pub struct CcdBits {
     pub latchup: bool,
 }
 
-#[derive(Drop)]
+#[derive(Clone, Copy)]
 pub struct Window {
     pub x1: u16,
     pub y1: u16,
@@ -33,7 +33,7 @@ pub struct Window {
 }
 
 // What a CCD block says besides its readings.
-#[derive(Drop)]
+#[derive(Clone, Copy)]
 pub struct CcdMeaning {
     pub window: Window,
     pub delay: u16,
@@ -43,7 +43,7 @@ pub struct CcdMeaning {
     pub flags: VisFlags,
 }
 
-#[derive(Drop)]
+#[derive(Clone, Copy)]
 pub enum CcdAnswer {
     Block(CcdMeaning),
     Refused(Refusal),
@@ -71,7 +71,7 @@ impl CcdAnswer {
 }
 
 // The readings are all 0 where the block is refused.
-#[derive(Drop)]
+#[derive(Clone, Copy)]
 pub struct CcdRead {
     pub readings: [u16; 16],
     pub answer: CcdAnswer,

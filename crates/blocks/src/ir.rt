@@ -17,7 +17,7 @@ pub const IR_WORDS: usize = 20;
 pub const IR_READINGS: usize = 14;
 
 // The bits of the flag word that the caller gives.
-#[derive(Drop)]
+#[derive(Clone, Copy)]
 pub struct IrBits {
     pub latchup: bool,
     pub notclosed: bool,
@@ -25,7 +25,7 @@ pub struct IrBits {
 }
 
 // What an IR block says besides its readings.
-#[derive(Drop)]
+#[derive(Clone, Copy)]
 pub struct IrMeaning {
     // The window mode: 0 full, 1 reduced.
     pub mode: u16,
@@ -35,7 +35,7 @@ pub struct IrMeaning {
     pub flags: IrFlags,
 }
 
-#[derive(Drop)]
+#[derive(Clone, Copy)]
 pub enum IrAnswer {
     Block(IrMeaning),
     Refused(Refusal),
@@ -63,7 +63,7 @@ impl IrAnswer {
 }
 
 // The readings are all 0 where the block is refused.
-#[derive(Drop)]
+#[derive(Clone, Copy)]
 pub struct IrRead {
     pub readings: [u16; 14],
     pub answer: IrAnswer,

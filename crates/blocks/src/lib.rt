@@ -1,4 +1,6 @@
 // The two housekeeping blocks, written and read (document 01, "Blocks").
+#![tactic(auto)]
+
 pub mod ccd;
 pub mod copy;
 pub mod ir;

@@ -6,7 +6,7 @@ ghost use Rattle.blocks.specs.Written.{written_if, buffer_after};
 use crate::copy::copy_in;
 use crate::refusal::Refusal;
 
-#[derive(Drop)]
+#[derive(Clone, Copy)]
 pub enum Written {
     Done,
     Refused(Refusal),

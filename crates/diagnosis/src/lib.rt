@@ -1,5 +1,7 @@
 // Why a word did nothing (document 02, request P7): the rule that the head applied, read off the head's own answer, and what is left of the
 // ticks that stopped the word, the word itself, or the mirror word that was due.
+#![tactic(auto)]
+
 ghost use Rattle.std.specs.Prelude.{◌≡◌};
 ghost use Rattle.head.specs.Numbers.{answer_number};
 ghost use Rattle.diagnosis.specs.Diagnosis.{due_after, by_cause, diagnosis_of, diagnosis_number, stopped_number};
@@ -9,7 +11,7 @@ use head::word::{Cause, Outcome};
 use words::kind_of;
 use words::kinds::{COS_L, COS_M, SIN_L, SIN_M};
 
-#[derive(Drop)]
+#[derive(Clone, Copy)]
 pub enum Diagnosis {
     // The word is taken.
     Taken,

@@ -1,4 +1,6 @@
 // From a tick that ends a task to the two blocks.
+#![tactic(auto)]
+
 ghost use Rattle.std.specs.Prelude.{◌≡◌};
 ghost use Rattle.blocks.specs.Numbers.{written_number, written_place};
 ghost use Rattle.blocks.specs.Written.{buffer_after};
@@ -15,7 +17,7 @@ use head::state::{Flags, Head, Task};
 use head::tick::{Due, Ticked};
 
 // What the caller gives for both blocks.
-#[derive(Drop)]
+#[derive(Clone, Copy)]
 pub struct Given {
     pub irreadings: [u16; 14],
     pub irbits: IrBits,
@@ -23,7 +25,7 @@ pub struct Given {
     pub ccdbits: CcdBits,
 }
 
-#[derive(Drop)]
+#[derive(Clone, Copy)]
 pub enum DueWritten {
     NotDue,
     Blocks(Written),

@@ -1,4 +1,6 @@
 // A diagnosis in plain words (document 02, request P7): one line for each case.
+#![tactic(auto)]
+
 ghost use Rattle.std.specs.Prelude.{◌≡◌, ◌++◌};
 ghost use Rattle.layout.specs.Numbers.{hex_of};
 ghost use Rattle.layout.specs.Written.{Written};

@@ -1,4 +1,6 @@
 // A model of the PEM-M head: a state that takes words and ticks (document 01, "The head").
+#![tactic(auto)]
+
 pub mod apply;
 pub mod busy;
 pub mod flags;

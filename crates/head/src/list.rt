@@ -14,7 +14,7 @@ use timed::is_list;
 // The ticks that pass after the last word: its own.
 const LAST_GAP: u32 = 1;
 
-#[derive(Drop)]
+#[derive(Clone, Copy)]
 pub enum ListAnswer {
     // Every word was given.
     Done,
@@ -24,7 +24,7 @@ pub enum ListAnswer {
     ListRefused,
 }
 
-#[derive(Drop)]
+#[derive(Clone, Copy)]
 pub struct Listed {
     pub head: Head,
     pub answer: ListAnswer,
@@ -64,7 +64,7 @@ pub fn gap_after(ticks: &[u32], at: usize) -> u32
 }
 
 // The state after a word and some ticks, and the number of the word's outcome.
-#[derive(Drop)]
+#[derive(Clone, Copy)]
 struct Stepped {
     head: Head,
     number: u16,

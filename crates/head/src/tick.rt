@@ -5,7 +5,7 @@ ghost use Rattle.head.specs.Tick.{motion_down, passed, tick_of};
 
 use crate::state::{FlagBits, Flags, Head, Motion, Task, Work};
 
-#[derive(Drop)]
+#[derive(Clone, Copy)]
 pub enum Due {
     Nothing,
     // Both blocks are due: the task that ended, and the flags that they show.
@@ -14,7 +14,7 @@ pub enum Due {
     Refused,
 }
 
-#[derive(Drop)]
+#[derive(Clone, Copy)]
 pub struct Ticked {
     pub head: Head,
     pub due: Due,

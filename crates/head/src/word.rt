@@ -15,7 +15,7 @@ use crate::state::{Begun, FlagBits, Head};
 use words::Decoded;
 use words::kinds::{COS_L, COVER, HK, SIN_M, START};
 
-#[derive(Drop)]
+#[derive(Clone, Copy)]
 pub enum Act {
     None,
     Exposure,
@@ -25,7 +25,7 @@ pub enum Act {
     Cover(u16),
 }
 
-#[derive(Drop)]
+#[derive(Clone, Copy)]
 pub enum Cause {
     // The state is out of range.
     State,
@@ -38,13 +38,13 @@ pub enum Cause {
     Turn,
 }
 
-#[derive(Drop)]
+#[derive(Clone, Copy)]
 pub enum Outcome {
     Taken(Act),
     Ignored(Cause),
 }
 
-#[derive(Drop)]
+#[derive(Clone, Copy)]
 pub struct Answered {
     pub head: Head,
     pub outcome: Outcome,

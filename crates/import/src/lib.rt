@@ -1,4 +1,6 @@
 // Lists of timed words read from text, in the layout that the listing program prints.
+#![tactic(auto)]
+
 pub mod line;
 pub mod progress;
 pub mod read;

@@ -7,7 +7,7 @@ use layout::bytes::within;
 use layout::numbers::put_named;
 use text::lines::put_timed;
 
-#[derive(Drop)]
+#[derive(Clone, Copy)]
 pub enum Line {
     Word { tick: u32, word: u16 },
     End { tick: u32 },

@@ -8,7 +8,7 @@ use crate::reasons::{AFTER_END, NO_HEAD_LINE, NO_WORD_LINE, NOT_RISING, TOO_MANY
 use timed::MOST_WORDS;
 
 // The number of a refusal, 0 for none, the lines and words so far, the least tick that may come, and whether the end came.
-#[derive(Drop)]
+#[derive(Clone, Copy)]
 pub(crate) struct Progress {
     pub(crate) number: u8,
     pub(crate) line: usize,

@@ -11,7 +11,7 @@ use crate::split::{line_count, line_end};
 // The most bytes of a text.
 pub const MOST_BYTES: usize = 8192;
 
-#[derive(Drop)]
+#[derive(Clone, Copy)]
 pub enum Import {
     // The number of words.
     Done { count: usize },

@@ -1,3 +1,5 @@
 // An imported list: read from text, and inspected.
+#![tactic(auto)]
+
 pub mod printed;
 pub mod refusal;

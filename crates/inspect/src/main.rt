@@ -1,5 +1,7 @@
 // Reads a list of timed words as text from standard input, gives it to a head at power-on, and prints what becomes of each word, or says
 // why the text is refused.
+#![tactic(auto)]
+
 use import::read::MOST_BYTES;
 use imported::printed::printed;
 use inspection::inspection::LONGEST;

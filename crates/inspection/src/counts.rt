@@ -12,7 +12,7 @@ use crate::rows::next_head;
 use head::numbers::is_cause;
 use head::state::Head;
 
-#[derive(Drop)]
+#[derive(Clone, Copy)]
 pub struct Counts {
     pub ignored: u32,
     pub exposures: u32,

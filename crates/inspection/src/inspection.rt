@@ -17,7 +17,7 @@ use timed::{MOST_WORDS, is_list};
 // Room for the inspection of every list.
 pub const LONGEST: usize = 262144;
 
-#[derive(Drop)]
+#[derive(Clone, Copy)]
 pub enum Inspected {
     // The length of the text, and what was counted.
     Done { length: usize, counts: Counts },

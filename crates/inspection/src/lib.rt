@@ -1,4 +1,6 @@
 // An imported list, word by word: what each word is, what becomes of it, and on which mirror pair the head exposes.
+#![tactic(auto)]
+
 pub mod counts;
 pub mod inspection;
 pub mod meaning;

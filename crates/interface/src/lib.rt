@@ -1,5 +1,7 @@
 // The C interface of the library (include/shabgozim.h). A state of the head crosses it as an array of 35 16-bit numbers. Every
 // length is judged here, and none is trusted.
+#![tactic(auto)]
+
 pub mod answers;
 pub mod pem_h;
 pub mod readings;

@@ -12,7 +12,7 @@ use words::groups::group_of;
 
 // What merging answers: the number, whose list the rest is of, how many entries were merged, and where the rest starts.
 #[repr(C)]
-#[derive(Drop)]
+#[derive(Clone, Copy)]
 pub struct MergeAnswer {
     pub number: u32,
     pub restof: u32,

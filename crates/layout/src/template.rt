@@ -16,7 +16,7 @@ pub const CLOSE: u8 = b'}';
 pub const CHANGED: u8 = b'^';
 
 // Where a template has been read to.
-#[derive(Drop)]
+#[derive(Clone, Copy)]
 pub struct Cursor {
     // The alternative that is copied, and the bars that have been passed; equal outside of alternatives.
     pub chosen: u64,

@@ -1,5 +1,7 @@
 // Reads a stored plan from standard input, translates it for a head at power-on, and lists its words with their ticks, or says why
 // it is refused.
+#![tactic(auto)]
+
 use libc::{STDERR_FILENO, STDIN_FILENO, STDOUT_FILENO};
 use text::listing::{LONGEST, MOST_INPUT, listing};
 

@@ -4,7 +4,7 @@ ghost use Rattle.merge.specs.Answer.{merging_number, merged_count, merged_of};
 
 use words::groups::{CCD, INFRARED};
 
-#[derive(Drop)]
+#[derive(Clone, Copy)]
 pub enum Merging {
     // How many entries of each list the merged part has.
     Done { ccd: usize, infrared: usize },
@@ -17,7 +17,7 @@ pub enum Merging {
 }
 
 // The answer in numbers: request P6's number, 0 for none; whose list the rest is of; how many entries are merged; where the rest starts.
-#[derive(Drop)]
+#[derive(Clone, Copy)]
 pub struct Merged {
     pub number: u8,
     pub list: u8,

@@ -1,4 +1,6 @@
 // Two lists of timed words merged by tick (document 02, request P6). An entry is one number, tick x 65,536 + word.
+#![tactic(auto)]
+
 ghost use Rattle.std.specs.Prelude.{◌≡◌, ◌+◌, ltb, length};
 ghost use Rattle.timed.specs.List.{rising};
 ghost use Rattle.merge.specs.Merge.{tick_in, ticks_in, merged_part};

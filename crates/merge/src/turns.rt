@@ -6,7 +6,7 @@ ghost use Rattle.merge.specs.ByPlaces.{Turned, walk_of};
 
 use crate::tick_in;
 
-#[derive(Drop)]
+#[derive(Clone, Copy)]
 pub(crate) enum Turn {
     // The next entry, the places after it in the two lists, and whether both have its tick.
     Given {
@@ -20,7 +20,7 @@ pub(crate) enum Turn {
 }
 
 // How many entries of each list the merged part has, and whether a tick stood in both.
-#[derive(Drop)]
+#[derive(Clone, Copy)]
 pub(crate) struct Walked {
     pub ccd: usize,
     pub infrared: usize,

@@ -21,7 +21,7 @@ pub const LONGEST: usize = 16384;
 const MOST_MERGED: usize = 2 * MOST_WORDS;
 
 // What merging two texts answers.
-#[derive(Drop)]
+#[derive(Clone, Copy)]
 pub enum MergedTexts {
     // The number of bytes.
     Done { length: usize },

@@ -1,4 +1,6 @@
 // Two operators share one head (document 02, request P6): the controller passes a word of theirs on to it, or refuses it.
+#![tactic(auto)]
+
 ghost use Rattle.std.specs.Prelude.{◌≡◌};
 ghost use Rattle.words.specs.Codec.{decode_of};
 ghost use Rattle.operators.specs.Passing.{in_group, passes, passed_on, passing_number, pass_on_number};
@@ -9,7 +11,7 @@ use words::groups::{INFRARED, group_of};
 use words::{Decoded, decode};
 
 // What becomes of an operator's word.
-#[derive(Drop)]
+#[derive(Clone, Copy)]
 pub enum Passing {
     // The state is out of range.
     StateRefused,
@@ -19,7 +21,7 @@ pub enum Passing {
     Passed(Outcome),
 }
 
-#[derive(Drop)]
+#[derive(Clone, Copy)]
 pub struct PassedOn {
     pub head: Head,
     pub passing: Passing,

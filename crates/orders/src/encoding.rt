@@ -9,7 +9,7 @@ use crate::codes;
 use crate::order::Order;
 
 // The words of an order, at most four; places past the count hold 0.
-#[derive(Drop)]
+#[derive(Clone, Copy)]
 pub struct Words {
     pub count: usize,
     pub list: [u16; 4],

@@ -8,7 +8,7 @@ use crate::codes::{
 };
 
 // An order: its code, and its fields in the order in which they are stored; a field that the code has not is 0.
-#[derive(Drop)]
+#[derive(Clone, Copy)]
 pub struct Order {
     pub code: u8,
     pub a: u16,

@@ -1,4 +1,6 @@
 // Reads the pixel map of the high-resolution head from standard input, and prints it as a portable bitmap, or says why it is refused.
+#![tactic(auto)]
+
 use libc::{STDERR_FILENO, STDIN_FILENO, STDOUT_FILENO};
 use picture::printed::{LONGEST, printed};
 use pixels::BYTES;

@@ -1,5 +1,7 @@
 // The pixel map of the high-resolution head (source document 000, section 3.6; document 02, request P5): its lighted pixels, and the time
 // of their readout.
+#![tactic(auto)]
+
 ghost use Rattle.std.specs.Prelude.{◌≡◌, ◌*◌, ◌≤◌, length};
 ghost use Rattle.pixels.specs.Map.{pixels, map_bytes, is_set, how_many};
 ghost use Rattle.pixels.specs.Readout.{readout_time};
@@ -17,7 +19,7 @@ pub const BYTES: usize = 14_783;
 const LAST: usize = BYTES - 1;
 
 // What is measured of a map, or why it is refused.
-#[derive(Drop)]
+#[derive(Clone, Copy)]
 pub enum Measured {
     Found(u32),
     Length,

@@ -14,7 +14,7 @@ use orders::codes::{COVER, EXPOSE, HOUSEKEEPING};
 use orders::order::Order;
 
 // What reading a plan answers.
-#[derive(Drop)]
+#[derive(Clone, Copy)]
 pub enum Read {
     // The number of acts.
     Accepted { acts: usize },

@@ -35,7 +35,7 @@ pub const FIELD_RANGE: u8 = 8;
 pub const TOO_MANY: u8 = 9;
 
 // What judging a plan answers.
-#[derive(Drop)]
+#[derive(Clone, Copy)]
 pub enum Judged {
     // The number of orders.
     Accepted { count: usize },
@@ -83,7 +83,7 @@ fn pair_at(plan: &[u8], i: usize) -> u16
 }
 
 // An order that was read: what is wrong with it, a number of document 01's refusal table or 0 for nothing; and where nothing is, itself.
-#[derive(Drop)]
+#[derive(Clone, Copy)]
 pub struct Checked {
     pub fault: u8,
     pub order: Order,

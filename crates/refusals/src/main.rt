@@ -1,4 +1,6 @@
 // A plan for each refusal of document 01's table, with the number and the byte place that translation answers.
+#![tactic(auto)]
+
 use head::state::Head;
 use libc::{STDERR_FILENO, STDOUT_FILENO};
 use schedule::Translated;

@@ -1,4 +1,6 @@
 // The settings of a head in groups, each value marked where it is another one than before.
+#![tactic(auto)]
+
 ghost use Rattle.std.specs.Prelude.{◌≡◌, ◌*◌};
 ghost use Rattle.words.specs.Fields.{on as Fields·on, current as Fields·current};
 ghost use Rattle.head.specs.Limits.{step_ticks};

@@ -63,7 +63,7 @@ fn put_motion(out: &mut [u8], at: usize, mirror: u16, cover: u16) -> usize
 
 // What came of a plan: its end, how many of its words there were and were taken, and whether the head's log and settings are those of
 // the plan read without words.
-#[derive(Drop)]
+#[derive(Clone, Copy)]
 pub(crate) struct Outcome {
     pub(crate) end: u32,
     pub(crate) words: usize,

@@ -1,4 +1,6 @@
 // The report of a plan: from which state it starts, what the head does order by order, and what is left at the end.
+#![tactic(auto)]
+
 pub mod acts;
 pub mod ending;
 pub mod lines;

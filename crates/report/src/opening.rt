@@ -48,7 +48,7 @@ fn is_power_on(head: Head) -> bool
     same_states(head.numbers(), Head::power_on().numbers())
 }
 
-#[derive(Drop)]
+#[derive(Clone, Copy)]
 pub(crate) struct Counts {
     pub(crate) bytes: usize,
     pub(crate) orders: usize,

@@ -12,7 +12,7 @@ use layout::bytes::put_bytes;
 use text::listing::MOST_INPUT;
 
 // Whether there is a report, its length, and otherwise the refusal's number and place.
-#[derive(Drop)]
+#[derive(Clone, Copy)]
 struct Told {
     done: bool,
     length: usize,

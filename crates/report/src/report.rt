@@ -22,7 +22,7 @@ use schedule::translate::MOST_WORDS;
 // Room for the report of every plan.
 pub const LONGEST: usize = 65536;
 
-#[derive(Drop)]
+#[derive(Clone, Copy)]
 pub enum Reported {
     // The head at the plan's end, and the length of the text.
     Done { head: Head, length: usize },
@@ -102,7 +102,7 @@ fn taken_words(head: Head, words: &[u16], ticks: &[u32]) -> usize
 }
 
 // The state that was given, the ticks until it is idle and at rest, and the state then.
-#[derive(Drop)]
+#[derive(Clone, Copy)]
 struct Start {
     given: Head,
     rest: u32,

@@ -1,5 +1,7 @@
 // The reports of further plans: one with every order, one with an exposure on either side of a mirror move, and two in a row, of which
 // the first leaves the cover moving.
+#![tactic(auto)]
+
 ghost use Rattle.io.specs.Counts.{IsPrefixLen};
 
 use head::state::Head;

@@ -1,4 +1,6 @@
 // The requests of the high-resolution head (PEM-H), to and from words (source document 000, section 4.2; document 02, request P5).
+#![tactic(auto)]
+
 pub mod table;
 
 ghost use Rattle.std.specs.Prelude.{◌≡◌, drop, cond, ◌<◌};
@@ -10,7 +12,7 @@ ghost use Rattle.requests.specs.Codec.{is_word_of, is_known, decode_of, encode_o
 use table::{REQUESTS, table};
 
 // What a word means: a request with its value, or several requests that share the word, of which the first is named.
-#[derive(Drop)]
+#[derive(Clone, Copy)]
 pub enum Meaning {
     One { request: u8, value: u16 },
     Shared { first: u8, value: u16 },
@@ -19,7 +21,7 @@ pub enum Meaning {
 }
 
 // The word of a request and its value.
-#[derive(Drop)]
+#[derive(Clone, Copy)]
 pub enum Encoded {
     Made(u16),
     Unknown,

@@ -14,7 +14,7 @@ use plan::reading::{Read, read_plan};
 use schedule::translate::MOST_WORDS;
 
 // What comparing answers.
-#[derive(Drop)]
+#[derive(Clone, Copy)]
 pub enum Compared {
     // The head at the end, the number of words, the tick at which the plan ends, the number of acts, and whether the two records are
     // equal.

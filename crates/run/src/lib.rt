@@ -1,4 +1,6 @@
 // A translated plan run on the head (demand 3).
+#![tactic(auto)]
+
 ghost use Rattle.std.specs.Prelude.{◌≡◌};
 ghost use Rattle.run.specs.Rehearse.{rehearsed_number, rehearsed_place};
 
@@ -10,7 +12,7 @@ pub mod compare;
 pub mod rehearse;
 
 // What rehearsing a plan answers.
-#[derive(Drop)]
+#[derive(Clone, Copy)]
 pub enum Rehearsed {
     // The head at the end, the number of words, the tick at which the plan ends, and the number of acts.
     Done {

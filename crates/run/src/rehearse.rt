@@ -17,7 +17,7 @@ use schedule::Translated;
 use schedule::translate::translate;
 
 // A head, and how many acts it has made.
-#[derive(Drop)]
+#[derive(Clone, Copy)]
 struct Ran {
     head: Head,
     acts: usize,

@@ -16,7 +16,7 @@ const COS_L_PLACE: u32 = 3;
 
 // The tick at which it stands, the ticks at which the mirror and the cover are at rest, and the settings that give the length of an
 // acquisition.
-#[derive(Drop)]
+#[derive(Clone, Copy)]
 pub struct Clock {
     pub now: u32,
     pub mirror: u32,

@@ -1,4 +1,6 @@
 // Plans translated into timed words (document 01, "Plans").
+#![tactic(auto)]
+
 ghost use Rattle.std.specs.Prelude.{◌≡◌};
 ghost use Rattle.schedule.specs.Translate.{translated_number, translated_place};
 
@@ -7,7 +9,7 @@ pub mod put;
 pub mod translate;
 
 // What translating a plan answers.
-#[derive(Drop)]
+#[derive(Clone, Copy)]
 pub enum Translated {
     // The number of words, and the tick at which the plan ends.
     Done { count: usize, end: u32 },

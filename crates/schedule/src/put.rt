@@ -12,7 +12,7 @@ use orders::encoding::Words;
 use orders::order::Order;
 
 // The clock after some words, and the place after theirs.
-#[derive(Drop)]
+#[derive(Clone, Copy)]
 pub struct Placed {
     pub clock: Clock,
     pub next: usize,

@@ -1,4 +1,6 @@
 // Reads a stored plan from standard input, simulates it on a head at power-on, and prints the report, or says why the plan is refused.
+#![tactic(auto)]
+
 use libc::{STDERR_FILENO, STDIN_FILENO, STDOUT_FILENO};
 use report::printed::printed;
 use report::report::LONGEST;

@@ -1,5 +1,7 @@
 // The status words of the two blocks, from meaning to bits and back, by the tables of their fields. `values` and `of_values` have the
 // fields' values in the table's order.
+#![tactic(auto)]
+
 mod tables;
 
 ghost use Rattle.std.specs.Prelude.{◌≡◌};
@@ -9,7 +11,7 @@ use crate::tables::{ALWAYS_SET, ir_flags, lamp_shutter, sine, vis_flags};
 use bitfields::{compose, values_in};
 
 // The lamp and shutter word of the IR block.
-#[derive(Drop)]
+#[derive(Clone, Copy)]
 pub struct LampShutter {
     pub lampcurrent: u16,
     pub lampon: bool,
@@ -18,14 +20,14 @@ pub struct LampShutter {
 }
 
 // The sine word of the CCD block.
-#[derive(Drop)]
+#[derive(Clone, Copy)]
 pub struct Sine {
     pub magnitude: u16,
     pub negative: bool,
 }
 
 // The flag word of the IR block.
-#[derive(Drop)]
+#[derive(Clone, Copy)]
 pub struct IrFlags {
     // The block follows an acquisition.
     pub acquired: bool,
@@ -42,7 +44,7 @@ pub struct IrFlags {
 }
 
 // The flag word of the CCD block.
-#[derive(Drop)]
+#[derive(Clone, Copy)]
 pub struct VisFlags {
     pub acquired: bool,
     pub time: bool,

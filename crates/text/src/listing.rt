@@ -18,7 +18,7 @@ pub const MOST_INPUT: usize = 4096;
 pub const LONGEST: usize = 8192;
 
 // What listing a plan answers.
-#[derive(Drop)]
+#[derive(Clone, Copy)]
 pub enum Listed {
     // The number of bytes.
     Done { length: usize },

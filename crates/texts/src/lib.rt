@@ -1,6 +1,8 @@
 // The texts of the C interface (include/shabgozim.h): the listing and the report of a plan, a list read from text, inspected or merged, refusals in
 // words, and the table of upper bytes. They stand in an archive of their own, so that the calls of the other one are not slowed down by
 // sharing functions with them.
+#![tactic(auto)]
+
 pub mod arrays;
 pub mod handing;
 pub mod lists;

@@ -1,4 +1,6 @@
 // Lists of timed words: as many ticks as words, rising (document 02, request P1).
+#![tactic(auto)]
+
 ghost use Rattle.std.specs.Prelude.{◌≡◌};
 ghost use Rattle.timed.specs.List.{rising, is_list};
 

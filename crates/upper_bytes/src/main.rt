@@ -1,4 +1,6 @@
 // Prints the table of upper bytes: each with the kind of the words that begin with it, and the ranges of those that are allowed.
+#![tactic(auto)]
+
 use libc::{STDERR_FILENO, STDOUT_FILENO};
 use names::table::{LONGEST, upper_bytes};
 

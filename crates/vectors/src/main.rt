@@ -1,4 +1,6 @@
 // Runs the examples of document 01 that are not starred, and shows the way from a tick to the two blocks: HK from power-on, cover shut.
+#![tactic(auto)]
+
 use blocks::ccd::CcdBits;
 use blocks::ir::IrBits;
 use due::{Given, write_due};

@@ -1,4 +1,6 @@
 // The 28 command words of VIRTIS-M, to and from words (document 01, "The words").
+#![tactic(auto)]
+
 pub mod groups;
 pub mod kinds;
 pub mod upper_byte;
@@ -47,7 +49,7 @@ const IDENTIFIER: [u16; 28] = [
 ];
 
 // What a word means.
-#[derive(Drop)]
+#[derive(Clone, Copy)]
 pub enum Decoded {
     Word { kind: u8, bits: u16 },
     Unknown,
@@ -55,7 +57,7 @@ pub enum Decoded {
 }
 
 // The word of a kind and its data.
-#[derive(Drop)]
+#[derive(Clone, Copy)]
 pub enum Encoded {
     Made(u16),
     Refused,
