@@ -1,0 +1,8 @@
+-- `blocks::ccd::CcdMeaning::shown` meets its contract.
+use Rattle.blocks.specs.Ccd.{ccd_shown}
+use borrow.Author.Rules.{rules}
+use Rattle.blocks.proofs.ccd.CcdMeaning.shown.Goals as goal
+
+pub returns : goal.returns
+unfolding ccd_shown
+returns c = rw c.in_word.ensures

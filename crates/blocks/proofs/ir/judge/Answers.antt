@@ -1,0 +1,29 @@
+-- `blocks::ir::judge` meets its contract.
+use Rattle.blocks.specs.Ir.{ir_judged}
+use Rattle.blocks.proofs.Judged.{stops, passes}
+use borrow.Author.Rules.{rules}
+use Rattle.blocks.proofs.ir.judge.Goals as goal
+
+pub returns-then-not-lines_right : goal.returns-then-not-lines_right
+unfolding ir_judged
+returns-then-not-lines_right c = search (rules, stops, passes)
+
+pub returns-then-not-allows : goal.returns-then-not-allows
+unfolding ir_judged
+returns-then-not-allows c = search (rules, stops, passes)
+
+pub returns-then-not-allows-2 : goal.returns-then-not-allows-2
+unfolding ir_judged
+returns-then-not-allows-2 c = search (rules, stops, passes)
+
+pub returns-then-not-right : goal.returns-then-not-right
+unfolding ir_judged
+returns-then-not-right c = search (rules, stops, passes)
+
+pub returns-then-not-right-2 : goal.returns-then-not-right-2
+unfolding ir_judged
+returns-then-not-right-2 c = search (rules, stops, passes)
+
+pub returns : goal.returns
+unfolding ir_judged
+returns c = search (rules, passes)

@@ -1,0 +1,16 @@
+-- `due::is_acquisition` meets its contract.
+use Rattle.due.specs.Due.{acquisition}
+use borrow.Author.Rules.{rules}
+use Rattle.due.proofs.is_acquisition.Goals as goal
+
+pub returns-in-Idle : goal.returns-in-Idle
+unfolding acquisition
+returns-in-Idle c = rw c.enum_told-1.given.1
+
+pub returns-in-Acquisition : goal.returns-in-Acquisition
+unfolding acquisition
+returns-in-Acquisition c = rw c.enum_told-in-Acquisition-1.given.1
+
+pub returns-in-Housekeeping : goal.returns-in-Housekeeping
+unfolding acquisition
+returns-in-Housekeeping c = rw c.enum_told-in-Housekeeping-1.given.1

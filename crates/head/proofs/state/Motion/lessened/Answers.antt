@@ -1,0 +1,6 @@
+-- `head::state::Motion::lessened` meets its contract.
+use borrow.Author.Rules.{rules}
+use Rattle.head.proofs.state.Motion.lessened.Goals as goal
+
+pub returns : goal.returns
+returns c = rw (c.down-2.ensures, c.down.ensures)

@@ -1,0 +1,6 @@
+-- `import::read::put_line` meets its contract.
+use borrow.Author.Rules.{rules}
+use Rattle.import.proofs.read.put_line.Goals as goal
+
+pub returns : goal.returns
+returns c = (rw c.word_of.ensures, rw c.tick_of.ensures)

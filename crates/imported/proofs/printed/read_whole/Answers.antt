@@ -1,0 +1,7 @@
+-- `imported::printed::read_whole` meets its contract.
+use Rattle.imported.proofs.Printing.{whole-answer, whole_words, whole-ticks}
+use borrow.Author.Rules.{rules}
+use Rattle.imported.proofs.printed.read_whole.Goals as goal
+
+pub returns : goal.returns
+returns c = (search (rules, whole-answer), (search (rules, whole_words), search (rules, whole-ticks)))

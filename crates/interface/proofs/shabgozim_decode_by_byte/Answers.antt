@@ -1,0 +1,6 @@
+-- `interface::shabgozim_decode_by_byte` meets its contract.
+use borrow.Author.Rules.{rules}
+use Rattle.interface.proofs.shabgozim_decode_by_byte.Goals as goal
+
+pub returns : goal.returns
+returns c = cc

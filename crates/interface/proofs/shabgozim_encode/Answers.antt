@@ -1,0 +1,6 @@
+-- `interface::shabgozim_encode` meets its contract.
+use borrow.Author.Rules.{rules}
+use Rattle.interface.proofs.shabgozim_encode.Goals as goal
+
+pub returns : goal.returns
+returns c = cc

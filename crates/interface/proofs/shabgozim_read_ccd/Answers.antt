@@ -1,0 +1,16 @@
+-- `interface::shabgozim_read_ccd` meets its contract.
+use Rattle.interface.proofs.Reading.{ccd-reader, unfit-answer, unfit-left, place, refused-answer, refused-left, said-answer, said-left}
+use borrow.Author.Rules.{rules}
+use Rattle.interface.proofs.shabgozim_read_ccd.Goals as goal
+
+pub returns-then-numbers-ne-CCD_NUMBERS : goal.returns-then-numbers-ne-CCD_NUMBERS
+returns-then-numbers-ne-CCD_NUMBERS c = search (rules, unfit-answer ccd-reader, unfit-left ccd-reader)
+
+pub refused_number-requires : goal.refused_number-requires
+refused_number-requires c = search (rules, place ccd-reader)
+
+pub returns-in-Block : goal.returns-in-Block
+returns-in-Block c = search (rules, said-answer ccd-reader, said-left ccd-reader)
+
+pub returns-in-Refused : goal.returns-in-Refused
+returns-in-Refused c = search (rules, refused-answer ccd-reader, refused-left ccd-reader)

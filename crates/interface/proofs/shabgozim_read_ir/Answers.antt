@@ -1,0 +1,16 @@
+-- `interface::shabgozim_read_ir` meets its contract.
+use Rattle.interface.proofs.Reading.{ir-reader, unfit-answer, unfit-left, place, refused-answer, refused-left, said-answer, said-left}
+use borrow.Author.Rules.{rules}
+use Rattle.interface.proofs.shabgozim_read_ir.Goals as goal
+
+pub returns-then-numbers-ne-IR_NUMBERS : goal.returns-then-numbers-ne-IR_NUMBERS
+returns-then-numbers-ne-IR_NUMBERS c = search (rules, unfit-answer ir-reader, unfit-left ir-reader)
+
+pub refused_number-requires : goal.refused_number-requires
+refused_number-requires c = search (rules, place ir-reader)
+
+pub returns-in-Block : goal.returns-in-Block
+returns-in-Block c = search (rules, said-answer ir-reader, said-left ir-reader)
+
+pub returns-in-Refused : goal.returns-in-Refused
+returns-in-Refused c = search (rules, refused-answer ir-reader, refused-left ir-reader)

@@ -1,0 +1,23 @@
+-- `interface::shabgozim_write_ir` meets its contract.
+use Rattle.blocks.specs.Ir.{ir_block_of}
+use Rattle.interface.specs.Blocks.{ir_block_for}
+use Rattle.interface.proofs.Ways.{long}
+use Rattle.interface.proofs.Writing.{few-number, few-left, unfit-number, unfit-left, ill-number, ill-left, written-answer, written-left}
+use borrow.Author.Rules.{rules}
+use Rattle.interface.proofs.shabgozim_write_ir.Goals as goal
+
+pub returns-then-readings-ne-IR_READINGS : goal.returns-then-readings-ne-IR_READINGS
+returns-then-readings-ne-IR_READINGS c = search (rules, few-number, few-left)
+
+pub returns-then-block-ne-IR_WORDS : goal.returns-then-block-ne-IR_WORDS
+returns-then-block-ne-IR_WORDS c = search (rules, unfit-number, unfit-left)
+
+pub returns-then-not-well_formed : goal.returns-then-not-well_formed
+returns-then-not-well_formed c = search (rules, ill-number, ill-left)
+
+pub load-head-requires : goal.load-head-requires
+load-head-requires c = long _ _ c.before.well-formed-2.ensures c.if-not-well_formed.false
+
+pub returns : goal.returns
+unfolding ir_block_for
+returns c = search (rules, written-answer, written-left ir_block_of)

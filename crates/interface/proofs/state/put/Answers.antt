@@ -1,0 +1,18 @@
+-- `interface::state::put` meets its contract.
+use borrow.Author.Rules.{rules}
+use mathlib.Core.Path.{◌≡◌}
+use Prim.Native.Nat.{◌+◌, ◌-◌, ◌≤◌}
+use native.Mathlib.Nat.{add-zero}
+use lib.ListN.{length, drop}
+use lib.Seq.{sets}
+use Rattle.interface.proofs.Storing.{put-more, put_all}
+use Rattle.interface.proofs.state.put.Goals as goal
+
+pub loop-i-init : goal.loop-i-init
+loop-i-init c = (search rules, search rules, rw add-zero)
+
+pub loop-i-preserved : goal.loop-i-preserved
+loop-i-preserved c = search (rules, put-more)
+
+pub returns : goal.returns
+returns c = search (rules, put_all)

@@ -1,0 +1,13 @@
+-- `layout::template::put_template` meets its contract. The loop's invariant: the template from its ith byte on is left.
+use mathlib.Core.Path.{refl}
+use Prim.Native.Nat.{◌-◌}
+use lib.ListN.{length}
+use Rattle.layout.proofs.Filling.{Filling, filling-first, filling-next, filled}
+use borrow.Author.Rules.{rules}
+use Rattle.layout.proofs.template.put_template.Given as goal
+
+abbrev pub invariant-loop-i : goal.invariant-loop-i
+invariant-loop-i l = Filling l.initial.out l.at l.template l.values l.before l.out l.place l.cursor l.i
+
+abbrev pub decreases-loop-i : goal.decreases-loop-i
+decreases-loop-i l = length l.template - l.i

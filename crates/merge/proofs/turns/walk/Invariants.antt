@@ -1,0 +1,13 @@
+-- `merge::turns::walk` meets its contract. The loop's invariant: the way has come to the places i and j.
+use Prim.Native.Nat.{◌+◌, ◌-◌}
+use lib.ListN.{length}
+use Rattle.merge.proofs.Stepping.{turn-less}
+use Rattle.merge.proofs.Walking.{Way, way-first, way_next, way-over}
+use borrow.Author.Rules.{rules}
+use Rattle.merge.proofs.turns.walk.Given as goal
+
+abbrev pub invariant-loop-n : goal.invariant-loop-n
+invariant-loop-n l = Way l.ccd l.infrared l.i l.j l.same
+
+abbrev pub decreases-loop-n : goal.decreases-loop-n
+decreases-loop-n l = length l.ccd - l.i + (length l.infrared - l.j)

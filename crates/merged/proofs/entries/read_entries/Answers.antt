@@ -1,0 +1,7 @@
+-- `merged::entries::read_entries` meets its contract.
+use Rattle.merged.proofs.Packing.{read_answer, read-entries}
+use borrow.Author.Rules.{rules}
+use Rattle.merged.proofs.entries.read_entries.Goals as goal
+
+pub returns : goal.returns
+returns c = (search (rules, read_answer), search (rules, read-entries))

@@ -1,0 +1,20 @@
+-- `picture::raster::put_row` meets its contract.
+use Prim.Native.Nat.{◌-◌}
+use Rattle.layout.proofs.Below.{TextsWritten, texts-first, texts-next}
+use Rattle.layout.proofs.Writing.{written-long}
+use Rattle.picture.specs.Raster.{byte_text, row_bytes}
+use Rattle.picture.proofs.Rows.{byte-written, row_done}
+use borrow.Author.Rules.{rules}
+use Rattle.picture.proofs.raster.put_row.Goals as goal
+
+pub loop-k-init : goal.loop-k-init
+loop-k-init c = search (rules, texts-first)
+
+pub loop-k-preserved : goal.loop-k-preserved
+loop-k-preserved c = search (rules, texts-next, byte-written)
+
+pub shape_of-out : goal.shape_of-out
+shape_of-out c = written-long c.loop-k.invariant.part
+
+pub returns : goal.returns
+returns c = search (rules, row_done)

@@ -1,0 +1,15 @@
+-- `plan::settings::switched` meets its contract, and the value fits.
+use native.Mathlib.Omega.{arith}
+use borrow.Author.Rules.{rules}
+use Rattle.plan.proofs.Registers.{current-most}
+use Rattle.plan.proofs.settings.switched.Goals as goal
+
+pub overflow_mul-result : goal.overflow_mul-result
+overflow_mul-result c =
+    let p = c.requires in
+    omega (arith, current-most c.args.order p.1.1 p.0 p.1.0)
+
+pub overflow_add-result : goal.overflow_add-result
+overflow_add-result c =
+    let p = c.requires in
+    omega (arith, current-most c.args.order p.1.1 p.0 p.1.0)

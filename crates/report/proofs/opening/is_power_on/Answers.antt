@@ -1,0 +1,7 @@
+-- `report::opening::is_power_on` meets its contract.
+use mathlib.Core.Path.{◌∙◌}
+use borrow.Author.Rules.{rules}
+use Rattle.report.proofs.opening.is_power_on.Goals as goal
+
+pub returns : goal.returns
+returns c = c.same_states.ensures ∙ rw (c.numbers.ensures, c.numbers-2.ensures, c.power_on.ensures)

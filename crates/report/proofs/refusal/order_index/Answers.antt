@@ -1,0 +1,17 @@
+-- `report::refusal::order_index` meets its contract. The loop's invariant: no order before this one is the one that is looked for.
+use Prim.Native.Nat.{◌-◌}
+use Rattle.report.proofs.Indexing.{Counting, counting-first, counting-found, counting-next, counting-last}
+use borrow.Author.Rules.{rules}
+use Rattle.report.proofs.refusal.order_index.Goals as goal
+
+pub loop-index-init : goal.loop-index-init
+loop-index-init c = search (rules, counting-first)
+
+pub returns-then-place-at : goal.returns-then-place-at
+returns-then-place-at c = search (rules, counting-found)
+
+pub loop-index-preserved : goal.loop-index-preserved
+loop-index-preserved c = search (rules, counting-next)
+
+pub returns : goal.returns
+returns c = search (rules, counting-last)

@@ -1,0 +1,18 @@
+-- `requests::has_code` meets its contract.
+use Prim.Native.Nat.{◌-◌}
+use mathlib.Core.Path.{◌≡◌}
+use lib.ListN.{length, drop}
+use Rattle.requests.specs.Codec.{is_known}
+use Rattle.requests.specs.Rows.{rows_in}
+use borrow.Author.Rules.{rules}
+use Rattle.requests.proofs.Rows.{known-here, known-later, known-none}
+use Rattle.requests.proofs.has_code.Goals as goal
+
+pub returns-then-own-code : goal.returns-then-own-code
+returns-then-own-code c = search (rules, known-here)
+
+pub loop-i-preserved : goal.loop-i-preserved
+loop-i-preserved c = search (rules, known-later)
+
+pub returns : goal.returns
+returns c = search (rules, known-none)

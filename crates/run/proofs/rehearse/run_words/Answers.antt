@@ -1,0 +1,69 @@
+-- `run::rehearse::run_words` meets its contract. The loop's invariant: i words have been given.
+use mathlib.Core.Path.{◌∙◌}
+use Prim.Native.Nat.{◌-◌, ◌<◌, ◌≤◌}
+use native.Mathlib.Omega.{arith}
+use Rattle.plan.specs.Rows.{end_row}
+use Rattle.run.proofs.Rehearsing.{Running, running-first, running-ends, running-after, running-before, running-room, running-next, running-last, running-acts, running-rows, running-times}
+use borrow.Author.Rules.{rules}
+use Rattle.run.proofs.rehearse.run_words.Goals as goal
+
+pub loop-i-init : goal.loop-i-init
+loop-i-init c =
+    let p = c.requires in
+    running-first p.0 p.1.0 p.1.1.0 p.1.1.1
+
+pub overflow_sub-tick : goal.overflow_sub-tick
+overflow_sub-tick c =
+    let a = c.args in
+    let at = c.loop-i in
+    let more : at.i < a.count = omega arith in
+    omega (arith, running-after at.invariant more)
+
+pub give-given-requires : goal.give-given-requires
+give-given-requires c =
+    let a = c.args in
+    let at = c.loop-i in
+    let more : at.i < a.count = omega arith in
+    rw c.pass-found.ensures (running-room at.invariant more)
+
+pub overflow_add-clock : goal.overflow_add-clock
+overflow_add-clock c =
+    let a = c.args in
+    let at = c.loop-i in
+    let more : at.i < a.count = omega arith in
+    omega (arith, running-before at.invariant more, c.ranges.end)
+
+pub overflow_add-i : goal.overflow_add-i
+overflow_add-i c = omega (arith, c.loop-i-test.true, c.ranges.count)
+
+pub loop-i-preserved : goal.loop-i-preserved
+loop-i-preserved c =
+    let a = c.args in
+    let at = c.loop-i in
+    let more : at.i < a.count = omega arith in
+    let e = c.give-given.ensures in
+    running-next at.invariant more c.pass-found.ensures e.0 e.1
+
+pub overflow_sub-end : goal.overflow_sub-end
+overflow_sub-end c =
+    let a = c.args in
+    let at = c.loop-i in
+    omega (arith, running-ends at.invariant)
+
+pub shape_of-rows : goal.shape_of-rows
+shape_of-rows c = c.lay.auto.0 ∙ c.loop-i.invariant.long_rows
+
+pub shape_of-times : goal.shape_of-times
+shape_of-times c = c.loop-i.invariant.long_times
+
+pub returns : goal.returns
+unfolding end_row
+returns c =
+    let a = c.args in
+    let at = c.loop-i in
+    let all : a.count ≤ at.i = omega arith in
+    let last = c.pass-last.ensures in
+    let laid = rw c.settings_row.ensures at c.lay.ensures in (
+      running-last at.invariant all last,
+      (running-acts at.invariant all, (running-rows at.invariant all last laid, running-times at.invariant all)),
+    )

@@ -1,0 +1,9 @@
+-- `schedule::clock::Clock::of` meets its contract.
+use native.Mathlib.Nat.{zero-add}
+use Rattle.schedule.specs.Clock.{clock_of}
+use borrow.Author.Rules.{rules}
+use Rattle.schedule.proofs.clock.Clock.of.Goals as goal
+
+pub returns : goal.returns
+unfolding clock_of
+returns c = simp zero-add

@@ -1,0 +1,9 @@
+-- `text::lines::put_timed_line` meets its contract.
+use Rattle.layout.specs.Numbers.{ascii}
+use Rattle.text.proofs.Printing.{word-line}
+use borrow.Author.Rules.{rules}
+use Rattle.text.proofs.lines.put_timed_line.Goals as goal
+
+pub returns : goal.returns
+unfolding ascii
+returns c = search (rules, word-line)
