@@ -1,6 +1,6 @@
 -- `layout::bytes::put_byte` meets its contract.
 use borrow.Author.Rules.{rules}
-use Rattle.layout.proofs.Writing.{written_byte, written-past}
+use Rattle.layout.proofs.Writing.{written-past}
 use Rattle.layout.proofs.bytes.put_byte.Goals as goal
 
 pub returns : goal.returns

@@ -1,8 +1,7 @@
 -- `layout::bytes::put_bytes` meets its contract. The loop's invariant: the bytes from the ith on are left.
 use Prim.Native.Nat.{◌-◌}
 use lib.ListN.{length}
-use Rattle.layout.proofs.Copying.{Copying, copying-first, copying-next, copied}
-use borrow.Author.Rules.{rules}
+use Rattle.layout.proofs.Copying.{Copying}
 use Rattle.layout.proofs.bytes.put_bytes.Given as goal
 
 abbrev pub invariant-loop-i : goal.invariant-loop-i

@@ -1,7 +1,6 @@
 -- `layout::bytes::put_repeated` meets its contract. The loop's invariant: the byte is to be written count - i times more.
 use Prim.Native.Nat.{◌-◌}
-use Rattle.layout.proofs.Copying.{Repeating, repeating-first, repeating-next, repeated}
-use borrow.Author.Rules.{rules}
+use Rattle.layout.proofs.Copying.{Repeating}
 use Rattle.layout.proofs.bytes.put_repeated.Given as goal
 
 abbrev pub invariant-loop-i : goal.invariant-loop-i

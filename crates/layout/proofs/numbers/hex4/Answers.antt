@@ -1,6 +1,5 @@
 -- `layout::numbers::hex4` meets its contract: digit by digit.
 use Rattle.layout.specs.Numbers.{hex_of}
-use borrow.Author.Rules.{rules}
 use Rattle.layout.proofs.numbers.hex4.Goals as goal
 
 pub returns : goal.returns

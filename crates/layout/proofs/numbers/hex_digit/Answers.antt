@@ -1,7 +1,6 @@
 -- `layout::numbers::hex_digit` meets its contract.
 use borrow.Author.Tests.{lt-ltb, le-ltb}
 use Rattle.layout.specs.Numbers.{hex_digit}
-use borrow.Author.Rules.{rules}
 use Rattle.layout.proofs.numbers.hex_digit.Goals as goal
 
 pub returns-then-d-lt10 : goal.returns-then-d-lt10

@@ -1,9 +1,7 @@
 -- `layout::template::put_template` meets its contract. The loop's invariant: the template from its ith byte on is left.
-use mathlib.Core.Path.{refl}
 use Prim.Native.Nat.{◌-◌}
 use lib.ListN.{length}
-use Rattle.layout.proofs.Filling.{Filling, filling-first, filling-next, filled}
-use borrow.Author.Rules.{rules}
+use Rattle.layout.proofs.Filling.{Filling}
 use Rattle.layout.proofs.template.put_template.Given as goal
 
 abbrev pub invariant-loop-i : goal.invariant-loop-i
