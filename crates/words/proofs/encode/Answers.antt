@@ -7,6 +7,9 @@ use Rattle.words.proofs.Allowed.{allowed-kind}
 use Rattle.words.proofs.Codec.{encode-made, encode-refused, encode-fits, identifier-fits, encoding-number}
 use Rattle.words.proofs.encode.Goals as goal
 
+pub bounds-kind : goal.bounds-kind
+bounds-kind c = allowed-kind _ _ (sym c.allows.ensures ∙ c.if-allows.true)
+
 pub overflow_mul-result : goal.overflow_mul-result
 overflow_mul-result c = search (rules, identifier-fits)
 
