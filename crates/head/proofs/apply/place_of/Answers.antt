@@ -7,4 +7,4 @@ use Rattle.head.proofs.apply.place_of.Goals as goal
 
 pub returns : goal.returns
 unfolding place_of
-returns c = (refl, search (rules, place_inside))
+returns c = record { value = refl; upper_bound = search (rules, place_inside) }

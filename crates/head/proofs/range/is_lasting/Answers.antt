@@ -6,12 +6,12 @@ use Rattle.head.proofs.range.is_lasting.Goals as goal
 
 pub returns-in-0 : goal.returns-in-0
 unfolding lasting
-returns-in-0 c = rw c.in-0.keys1
+returns-in-0 c = rw c.in-0.is
 
 pub returns-in-1 : goal.returns-in-1
 unfolding lasting
-returns-in-1 c = rw c.in-1.keys2
+returns-in-1 c = rw c.in-1.is
 
 pub returns-in_default : goal.returns-in_default
 unfolding lasting
-returns-in_default c = simp (ne_eqb _ _ c.in_default.rest.0.1, ne_eqb _ _ c.in_default.rest.1)
+returns-in_default c = simp (ne_eqb c.args.task 0 (search rules), ne_eqb c.args.task 1 (search rules))

@@ -4,7 +4,7 @@ use borrow.Author.Rules.{rules}
 use Rattle.head.proofs.state.Head.answer.Goals as goal
 
 pub no_word-requires : goal.no_word-requires
-no_word-requires c = no_word c.decode-found.result c.in_default.keys2
+no_word-requires c = search (rules, no_word)
 
 pub returns-in_default : goal.returns-in_default
 returns-in_default c = search (rules, way-finding, no_word)

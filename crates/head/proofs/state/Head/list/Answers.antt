@@ -14,4 +14,4 @@ pub given-requires : goal.given-requires
 given-requires c = search (rules, ranged, list-is, list-room)
 
 pub returns : goal.returns
-returns c = (search (rules, list_done), (search (rules, outcomes-done, list-is), search (rules, list-done-number)))
+returns c = record { value = search (rules, list_done); outcomes_after = search (rules, outcomes-done, list-is); answer_value = search (rules, list-done-number) }

@@ -6,16 +6,16 @@ use Rattle.head.specs.Apply.{after}
 use Rattle.head.proofs.state.Head.pointed.Goals as goal
 
 pub overflow_mul-sine : goal.overflow_mul-sine
-overflow_mul-sine c = omega (arith, (bounds c.args.self c.requires.0).begun)
+overflow_mul-sine c = omega (arith, (bounds c.args.self c.requires.fact_1).begun)
 
 pub overflow_add-sine : goal.overflow_add-sine
-overflow_add-sine c = omega (arith, (bounds c.args.self c.requires.0).begun)
+overflow_add-sine c = omega (arith, (bounds c.args.self c.requires.fact_1).begun)
 
 pub overflow_mul-cosine : goal.overflow_mul-cosine
-overflow_mul-cosine c = omega (arith, (bounds c.args.self c.requires.0).begun)
+overflow_mul-cosine c = omega (arith, (bounds c.args.self c.requires.fact_1).begun)
 
 pub overflow_add-cosine : goal.overflow_add-cosine
-overflow_add-cosine c = omega (arith, (bounds c.args.self c.requires.0).begun)
+overflow_add-cosine c = omega (arith, (bounds c.args.self c.requires.fact_1).begun)
 
 pub returns : goal.returns
 unfolding after
