@@ -13,7 +13,7 @@ pub returns-then-rows-k : goal.returns-then-rows-k
 returns-then-rows-k c =
     let a = c.args in
     let past : length a.rows.now ≤ 21 * a.k = omega arith in
-    sets-past a.t3 a.rows.now (21 * a.k) past
+    sets-past a.row a.rows.now (21 * a.k) past
 
 pub loop-i-init : goal.loop-i-init
 loop-i-init c = (search rules, search rules, search rules, rw add-zero)
@@ -23,7 +23,7 @@ returns-then-rows-from c =
     let a = c.args in
     let at = c.loop-i in
     let past : length at.rows ≤ 21 * a.k + at.i = omega arith in
-    sets-past (drop at.i a.t3) at.rows (21 * a.k + at.i) past ∙ sym at.invariant.3
+    sets-past (drop at.i a.row) at.rows (21 * a.k + at.i) past ∙ sym at.invariant.3
 
 pub loop-i-preserved : goal.loop-i-preserved
 loop-i-preserved c = search (rules, laid_next)
@@ -32,5 +32,5 @@ pub returns : goal.returns
 returns c =
     let a = c.args in
     let at = c.loop-i in
-    let all : length a.t3 ≤ at.i = omega arith in
-    laid-last _ at.rows a.t3 (21 * a.k) at.i at.invariant.3 all
+    let all : length a.row ≤ at.i = omega arith in
+    laid-last _ at.rows a.row (21 * a.k) at.i at.invariant.3 all

@@ -8,25 +8,26 @@ use Rattle.plan.proofs.reading.log_order.Goals as goal
 pub returns-then-code-eq-COVER : goal.returns-then-code-eq-COVER
 returns-then-code-eq-COVER c =
     let a = c.args in
-    one-row _ _ c.lay.ensures c.cover_row.ensures
-    (entries-cover a.settings a.order c.if-code-eq-COVER.true)
+    let e = one-row a.rows.now a.acts c.lay.ensures c.cover_row.ensures (entries-cover a.settings a.order c.if-code-eq-COVER.true) in
+    record { value = e.0; rows_after = e.1 }
 
 pub returns-then-code-eq-EXPOSE : goal.returns-then-code-eq-EXPOSE
 unfolding entry_row
 returns-then-code-eq-EXPOSE c =
     let a = c.args in
-    let found = c.before.before.before.before.before in
-    one-row _ _ c.lay-then-code-eq-EXPOSE.ensures c.settings_row.ensures
-    (entries-expose a.settings a.order found.before.if1.false found.if2.true)
+    let act = entries-expose a.settings a.order c.if-code-eq-COVER.false c.if-code-eq-EXPOSE.true in
+    let e = one-row a.rows.now a.acts c.lay-then-code-eq-EXPOSE.ensures c.settings_row.ensures act in
+    record { value = e.0; rows_after = e.1 }
 
 pub returns-then-code-eq-HOUSEKEEPING : goal.returns-then-code-eq-HOUSEKEEPING
 returns-then-code-eq-HOUSEKEEPING c =
     let a = c.args in
-    let found = c.before.before.before.before.before in
-    one-row _ _ c.lay-then-code-eq-HOUSEKEEPING.ensures c.request_row.ensures
-    (entries-request a.settings a.order found.before.before.if1.false found.before.if2.false found.if3.true)
+    let act = entries-request a.settings a.order c.if-code-eq-COVER.false c.if-code-eq-EXPOSE.false c.if-code-eq-HOUSEKEEPING.true in
+    let e = one-row a.rows.now a.acts c.lay-then-code-eq-HOUSEKEEPING.ensures c.request_row.ensures act in
+    record { value = e.0; rows_after = e.1 }
 
 pub returns : goal.returns
 returns c =
     let a = c.args in
-    no_row _ _ (entries_none a.settings a.order c.if-code-eq-COVER.false c.if-code-eq-EXPOSE.false c.if-code-eq-HOUSEKEEPING.false)
+    let e = no_row a.rows.now a.acts (entries_none a.settings a.order c.if-code-eq-COVER.false c.if-code-eq-EXPOSE.false c.if-code-eq-HOUSEKEEPING.false) in
+    record { value = e.0; rows_after = e.1 }

@@ -9,7 +9,7 @@ use borrow.Author.Rules.{rules}
 use Rattle.plan.proofs.reading.read_orders.Goals as goal
 
 pub loop-k-init : goal.loop-k-init
-loop-k-init c = logging-first c.requires.0 c.requires.1
+loop-k-init c = logging-first c.requires.fact_1 c.requires.fact_2
 
 pub log_order-acts-requires : goal.log_order-acts-requires
 log_order-acts-requires c =
@@ -27,10 +27,9 @@ settings_by-settings-requires c =
 
 pub overflow_add-at-in-loop-k : goal.overflow_add-at-in-loop-k
 overflow_add-at-in-loop-k c =
-    let start = c.before.before.before.before.before.before.before.before.before.before.before.before in
     let at = c.loop-k in
-    let more : at.k < start.args.count = omega arith in
-    omega (arith, logging-ends at.invariant more, start.well-formed.1.0.0, c.byte_at.ensures)
+    let more : at.k < c.args.count = omega arith in
+    omega (arith, logging-ends at.invariant more, c.byte_at.ensures)
 
 pub loop-k-preserved : goal.loop-k-preserved
 loop-k-preserved c =
@@ -39,10 +38,10 @@ loop-k-preserved c =
     let more : at.k < a.count = omega arith in
     let is = logging-order at.invariant more c.checked_at-checked.ensures in
     let e = rw is at c.log_order-acts.ensures in
-    rw c.byte_at.ensures (logging-next at.invariant more e.0 e.1 (rw is at c.settings_by-settings.ensures))
+    rw c.byte_at.ensures (logging-next at.invariant more e.value e.rows_after (rw is at c.settings_by-settings.ensures))
 
 pub shape_of-rows : goal.shape_of-rows
-shape_of-rows c = c.lay.auto.0 ∙ c.loop-k.invariant.long_rows
+shape_of-rows c = c.lay.auto.rows ∙ c.loop-k.invariant.long_rows
 
 pub returns : goal.returns
 unfolding end_row
@@ -51,4 +50,4 @@ returns c =
     let at = c.loop-k in
     let all : a.count ≤ at.k = omega arith in
     let lay = c.lay.ensures in
-    (logged-acts at.invariant all, logged-rows at.invariant all (rw c.settings_row.ensures at lay))
+    record { value = logged-acts at.invariant all; rows_after = logged-rows at.invariant all (rw c.settings_row.ensures at lay) }

@@ -8,63 +8,63 @@ use Rattle.plan.proofs.settings.settings_by.Goals as goal
 pub overflow_sub-settings : goal.overflow_sub-settings
 overflow_sub-settings c =
     let o = c.args.order in
-    omega (arith, motor-most o c.requires c.in-13.keys13)
+    omega (arith, motor-most o c.requires c.in-13.is)
 
 pub returns-in-1 : goal.returns-in-1
 unfolding settings_by
-returns-in-1 c = rw c.in-1.keys1
+returns-in-1 c = rw c.in-1.is
 
 pub returns-in-2 : goal.returns-in-2
 unfolding settings_by
-returns-in-2 c = rw c.in-2.keys2
+returns-in-2 c = rw c.in-2.is
 
 pub returns-in-3 : goal.returns-in-3
 unfolding settings_by
-returns-in-3 c = rw c.in-3.keys3
+returns-in-3 c = rw c.in-3.is
 
 pub returns-in-4 : goal.returns-in-4
 unfolding settings_by
-returns-in-4 c = rw c.in-4.keys4
+returns-in-4 c = rw c.in-4.is
 
 pub returns-in-5 : goal.returns-in-5
 unfolding settings_by
-returns-in-5 c = rw c.in-5.keys5
+returns-in-5 c = rw c.in-5.is
 
 pub returns-in-6 : goal.returns-in-6
 unfolding settings_by
-returns-in-6 c = rw c.in-6.keys6
+returns-in-6 c = rw c.in-6.is
 
 pub returns-in-7 : goal.returns-in-7
 unfolding settings_by
-returns-in-7 c = rw c.in-7.keys7
+returns-in-7 c = rw c.in-7.is
 
 pub returns-in-8 : goal.returns-in-8
 unfolding settings_by
-returns-in-8 c = rw (c.in-8.keys8, c.switched.ensures)
+returns-in-8 c = rw (c.in-8.is, c.switched.ensures)
 
 pub returns-in-9 : goal.returns-in-9
 unfolding settings_by
-returns-in-9 c = rw (c.in-9.keys9, c.switched-in-9.ensures)
+returns-in-9 c = rw (c.in-9.is, c.switched-in-9.ensures)
 
 pub returns-in-10 : goal.returns-in-10
 unfolding settings_by
-returns-in-10 c = rw (c.in-10.keys10, c.switched-in-10.ensures)
+returns-in-10 c = rw (c.in-10.is, c.switched-in-10.ensures)
 
 pub returns-in-11 : goal.returns-in-11
 unfolding settings_by
-returns-in-11 c = rw (c.in-11.keys11, c.switched-in-11.ensures)
+returns-in-11 c = rw (c.in-11.is, c.switched-in-11.ensures)
 
 pub returns-in-12 : goal.returns-in-12
 unfolding settings_by
-returns-in-12 c = rw (c.in-12.keys12, c.sine_register.ensures)
+returns-in-12 c = rw (c.in-12.is, c.sine_register.ensures)
 
 pub returns-in-13 : goal.returns-in-13
 unfolding settings_by
-returns-in-13 c = rw c.in-13.keys13
+returns-in-13 c = rw c.in-13.is
 
 pub returns-in-14 : goal.returns-in-14
 unfolding settings_by
-returns-in-14 c = rw c.in-14.keys14
+returns-in-14 c = rw c.in-14.is
 
 pub returns-in_default : goal.returns-in_default
-returns-in_default c = settings-same _ c.in_default.rest _
+returns-in_default c = settings-same c.args.order (search rules) _

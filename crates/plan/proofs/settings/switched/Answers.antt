@@ -7,9 +7,9 @@ use Rattle.plan.proofs.settings.switched.Goals as goal
 pub overflow_mul-result : goal.overflow_mul-result
 overflow_mul-result c =
     let p = c.requires in
-    omega (arith, current-most c.args.order p.1.1 p.0 p.1.0)
+    omega (arith, current-most c.args.order p.fact_3 p.fact_1 p.fact_2)
 
 pub overflow_add-result : goal.overflow_add-result
 overflow_add-result c =
     let p = c.requires in
-    omega (arith, current-most c.args.order p.1.1 p.0 p.1.0)
+    omega (arith, current-most c.args.order p.fact_3 p.fact_1 p.fact_2)
