@@ -7,7 +7,7 @@
  * high-resolution head; last words of two operators passed on, and their lists
  * merged.
  *
- *     rt staticlib interface && rt staticlib texts
+ *     tools/archives
  *     cc -Wall -Wextra -Werror -I include examples/smoke.c \
  *         target/staticlib/libinterface.a target/staticlib/libtexts.a \
  *         -o target/smoke

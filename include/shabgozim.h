@@ -10,8 +10,7 @@
  * `shabgozim_merge_texts`, `shabgozim_operator_refusal`), and may be left out
  * where none of them is called:
  *
- *     rt staticlib interface
- *     rt staticlib texts
+ *     tools/archives
  *     cc -I include program.c target/staticlib/libinterface.a \
  *        target/staticlib/libtexts.a
  *

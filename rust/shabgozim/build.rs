@@ -1,4 +1,4 @@
-//! Links the archives that `rt staticlib interface` and `rt staticlib texts` write.
+//! Links the archives that `tools/archives` writes.
 
 use std::env;
 use std::path::{Path, PathBuf};
@@ -14,7 +14,7 @@ fn main() {
     for library in LIBRARIES {
         let archive = folder.join(format!("lib{library}.a"));
         println!("cargo:rerun-if-changed={}", archive.display());
-        require(&archive, library);
+        require(&archive);
         println!("cargo:rustc-link-lib=static={library}");
     }
 }
@@ -25,10 +25,10 @@ fn archive_folder() -> PathBuf {
     Path::new(&crate_folder).join(folder)
 }
 
-fn require(archive: &Path, library: &str) {
+fn require(archive: &Path) {
     if !archive.is_file() {
         eprintln!("{} is missing.", archive.display());
-        eprintln!("Run `rt staticlib {library}`, or name its folder in {FOLDER_VARIABLE}.");
+        eprintln!("Run `tools/archives`, or name its folder in {FOLDER_VARIABLE}.");
         std::process::exit(1);
     }
 }

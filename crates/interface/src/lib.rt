@@ -1,5 +1,5 @@
-// The C interface of the library (include/shabgozim.h). A state of the head crosses it as an array of 35 16-bit numbers. Every
-// length is judged here, and none is trusted.
+// The C interface of the library (include/shabgozim.h), which `interface_c` exports. A state of the head crosses it as an array of 35
+// 16-bit numbers. Every length is judged here, and none is trusted.
 #![tactic(auto)]
 
 pub mod answers;
@@ -33,8 +33,7 @@ use state::PLACES;
 use words::upper_byte::decode_by_byte;
 
 // Writes the power-on state.
-#[unsafe(no_mangle)]
-pub extern "C" fn shabgozim_power_on(state: &mut [u16]) -> u32
+pub fn shabgozim_power_on(state: &mut [u16]) -> u32
     ensures value { result ≡ power_on_answer state.old }
     ensures state_after { state.new ≡ power_on_state state.old }
 {
@@ -45,8 +44,7 @@ pub extern "C" fn shabgozim_power_on(state: &mut [u16]) -> u32
     0
 }
 
-#[unsafe(no_mangle)]
-pub extern "C" fn shabgozim_in_range(state: &[u16]) -> u32
+pub fn shabgozim_in_range(state: &[u16]) -> u32
     ensures { result ≡ range_answer state.now }
 {
     if !state::well_formed(state) {
@@ -59,8 +57,7 @@ pub extern "C" fn shabgozim_in_range(state: &[u16]) -> u32
 }
 
 // Gives the head a word.
-#[unsafe(no_mangle)]
-pub extern "C" fn shabgozim_word(state: &mut [u16], word: u16) -> u32
+pub fn shabgozim_word(state: &mut [u16], word: u16) -> u32
     ensures value { result ≡ word_answer state.old word }
     ensures state_after { state.new ≡ word_state state.old word }
 {
@@ -74,8 +71,7 @@ pub extern "C" fn shabgozim_word(state: &mut [u16], word: u16) -> u32
 }
 
 // Lets a tick pass.
-#[unsafe(no_mangle)]
-pub extern "C" fn shabgozim_tick(state: &mut [u16]) -> u32
+pub fn shabgozim_tick(state: &mut [u16]) -> u32
     ensures value { result ≡ tick_answer state.old }
     ensures state_after { state.new ≡ tick_state state.old }
 {
@@ -89,13 +85,7 @@ pub extern "C" fn shabgozim_tick(state: &mut [u16]) -> u32
 }
 
 // Gives the head a list of words, each at its tick.
-#[unsafe(no_mangle)]
-pub extern "C" fn shabgozim_list(
-    state: &mut [u16],
-    words: &[u16],
-    ticks: &[u32],
-    outcomes: &mut [u16],
-) -> u32
+pub fn shabgozim_list(state: &mut [u16], words: &[u16], ticks: &[u32], outcomes: &mut [u16]) -> u32
     ensures value { result ≡ list_answer state.old words.now ticks.now (length outcomes.old) }
     ensures state_after { state.new ≡ list_state state.old words.now ticks.now (length outcomes.old) }
     ensures outcomes_after { outcomes.new ≡ list_outcomes state.old words.now ticks.now outcomes.old }
@@ -109,36 +99,27 @@ pub extern "C" fn shabgozim_list(
     answer.number() as u32
 }
 
-#[unsafe(no_mangle)]
-pub extern "C" fn shabgozim_decode(word: u16) -> u32
+pub fn shabgozim_decode(word: u16) -> u32
     ensures { result ≡ decoded_answer (decode_of word) }
 {
     answers::decoded_number(words::decode(word))
 }
 
 // The same by the word's upper byte.
-#[unsafe(no_mangle)]
-pub extern "C" fn shabgozim_decode_by_byte(word: u16) -> u32
+pub fn shabgozim_decode_by_byte(word: u16) -> u32
     ensures { result ≡ decoded_answer (decode_of word) }
 {
     answers::decoded_number(decode_by_byte(word))
 }
 
-#[unsafe(no_mangle)]
-pub extern "C" fn shabgozim_encode(kind: u8, bits: u16) -> u32
+pub fn shabgozim_encode(kind: u8, bits: u16) -> u32
     ensures { result ≡ encoded_answer (encode_of kind bits) }
 {
     answers::encoded_number(words::encode(kind, bits))
 }
 
 // Translates a stored plan for the head in this state.
-#[unsafe(no_mangle)]
-pub extern "C" fn shabgozim_translate(
-    state: &[u16],
-    plan: &[u8],
-    words: &mut [u16],
-    ticks: &mut [u32],
-) -> u64
+pub fn shabgozim_translate(state: &[u16], plan: &[u8], words: &mut [u16], ticks: &mut [u32]) -> u64
     ensures value { result ≡ translated_answer (translated_of state.now plan.now (length words.old) (length ticks.old)) }
     ensures words_after { words.new ≡ filled (translated_of state.now plan.now (length words.old) (length ticks.old)) (word_list (schedule_of (state_of state.now) (plan_of plan.now))) words.old }
     ensures ticks_after { ticks.new ≡ filled (translated_of state.now plan.now (length words.old) (length ticks.old)) (tick_list (schedule_of (state_of state.now) (plan_of plan.now))) ticks.old }
@@ -151,8 +132,7 @@ pub extern "C" fn shabgozim_translate(
 }
 
 // Writes the IR block of a state.
-#[unsafe(no_mangle)]
-pub extern "C" fn shabgozim_write_ir(
+pub fn shabgozim_write_ir(
     state: &[u16],
     flags: u32,
     ended: u32,
@@ -180,8 +160,7 @@ pub extern "C" fn shabgozim_write_ir(
 }
 
 // Writes the CCD block of a state.
-#[unsafe(no_mangle)]
-pub extern "C" fn shabgozim_write_ccd(
+pub fn shabgozim_write_ccd(
     state: &[u16],
     flags: u32,
     ended: u32,
@@ -209,8 +188,7 @@ pub extern "C" fn shabgozim_write_ccd(
 }
 
 // Reads an IR block into numbers.
-#[unsafe(no_mangle)]
-pub extern "C" fn shabgozim_read_ir(block: &[u16], numbers: &mut [u16]) -> u32
+pub fn shabgozim_read_ir(block: &[u16], numbers: &mut [u16]) -> u32
     ensures value { result ≡ ir_answer (ir_read_for block.now numbers.old) }
     ensures numbers_after { numbers.new ≡ ir_numbers_after (ir_read_for block.now numbers.old) block.now numbers.old }
 {
@@ -230,8 +208,7 @@ pub extern "C" fn shabgozim_read_ir(block: &[u16], numbers: &mut [u16]) -> u32
 }
 
 // Reads a CCD block into numbers.
-#[unsafe(no_mangle)]
-pub extern "C" fn shabgozim_read_ccd(block: &[u16], numbers: &mut [u16]) -> u32
+pub fn shabgozim_read_ccd(block: &[u16], numbers: &mut [u16]) -> u32
     ensures value { result ≡ ccd_answer (ccd_read_for block.now numbers.old) }
     ensures numbers_after { numbers.new ≡ ccd_numbers_after (ccd_read_for block.now numbers.old) block.now numbers.old }
 {

@@ -28,32 +28,28 @@ fn request_number(made: Encoded) -> u32
 }
 
 // The number of lighted pixels of a map.
-#[unsafe(no_mangle)]
-pub extern "C" fn shabgozim_h_lighted(map: &[u8]) -> u32
+pub fn shabgozim_h_lighted(map: &[u8]) -> u32
     ensures { result ≡ measured_answer (lighted_of map.now) }
 {
     measured_number(lighted(map))
 }
 
 // The time of a map's readout, in microseconds.
-#[unsafe(no_mangle)]
-pub extern "C" fn shabgozim_h_readout(map: &[u8]) -> u32
+pub fn shabgozim_h_readout(map: &[u8]) -> u32
     ensures { result ≡ measured_answer (readout_of map.now) }
 {
     measured_number(readout(map))
 }
 
 // What a word means to the head.
-#[unsafe(no_mangle)]
-pub extern "C" fn shabgozim_h_decode(word: u16) -> u32
+pub fn shabgozim_h_decode(word: u16) -> u32
     ensures { result ≡ meaning_answer (decode_of word) }
 {
     meaning_number(requests::decode(word))
 }
 
 // The word of a request with a value.
-#[unsafe(no_mangle)]
-pub extern "C" fn shabgozim_h_encode(request: u8, value: u16) -> u32
+pub fn shabgozim_h_encode(request: u8, value: u16) -> u32
     ensures { result ≡ request_answer (encode_of request value) }
 {
     request_number(requests::encode(request, value))

@@ -21,16 +21,14 @@ pub struct MergeAnswer {
 }
 
 // The group of a kind.
-#[unsafe(no_mangle)]
-pub extern "C" fn shabgozim_group(kind: u8) -> u32
+pub fn shabgozim_group(kind: u8) -> u32
     ensures { result ≡ group_of kind }
 {
     group_of(kind) as u32
 }
 
 // Passes an operator's word on to the head.
-#[unsafe(no_mangle)]
-pub extern "C" fn shabgozim_pass_on(state: &mut [u16], operator_group: u8, word: u16) -> u32
+pub fn shabgozim_pass_on(state: &mut [u16], operator_group: u8, word: u16) -> u32
     ensures value { result ≡ pass_on_answer state.old operator_group word }
     ensures state_after { state.new ≡ pass_on_state state.old operator_group word }
 {
@@ -44,8 +42,7 @@ pub extern "C" fn shabgozim_pass_on(state: &mut [u16], operator_group: u8, word:
 }
 
 // Merges two lists by tick until one has run out.
-#[unsafe(no_mangle)]
-pub extern "C" fn shabgozim_merge(ccd: &[u64], infrared: &[u64], merged: &mut [u64]) -> MergeAnswer
+pub fn shabgozim_merge(ccd: &[u64], infrared: &[u64], merged: &mut [u64]) -> MergeAnswer
     ensures value { result ≡ merge_answer ccd.now infrared.now (length merged.old) }
     ensures merged_after { merged.new ≡ output_after (merging_of ccd.now infrared.now (length merged.old)) (merged_part ccd.now infrared.now) merged.old }
 {

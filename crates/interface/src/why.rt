@@ -31,8 +31,7 @@ pub fn packed_why(diagnosis: Diagnosis) -> u32
 }
 
 // What becomes of a word that the head in this state gets, and why.
-#[unsafe(no_mangle)]
-pub extern "C" fn shabgozim_why(state: &[u16], word: u16) -> u32
+pub fn shabgozim_why(state: &[u16], word: u16) -> u32
     ensures { result ≡ why_answer state.now word }
 {
     if !state::well_formed(state) {

@@ -1,6 +1,5 @@
-// The texts of the C interface (include/shabgozim.h): the listing and the report of a plan, a list read from text, inspected or merged, refusals in
-// words, and the table of upper bytes. They stand in an archive of their own, so that the calls of the other one are not slowed down by
-// sharing functions with them.
+// The texts of the C interface (include/shabgozim.h), which `texts_c` exports: the listing and the report of a plan, a list read from text,
+// inspected or merged, refusals in words, and the table of upper bytes.
 #![tactic(auto)]
 
 pub mod arrays;
@@ -20,8 +19,7 @@ use interface::state::well_formed;
 use schedule::STATE_UNFIT;
 
 // Writes the listing of a stored plan for the head in this state.
-#[unsafe(no_mangle)]
-pub extern "C" fn shabgozim_listing(state: &[u16], plan: &[u8], text: &mut [u8]) -> u64
+pub fn shabgozim_listing(state: &[u16], plan: &[u8], text: &mut [u8]) -> u64
     ensures value { result ≡ listing_answer state.now plan.now text.old }
     ensures text_after { text.new ≡ listing_left state.now plan.now text.old }
 {
@@ -32,8 +30,7 @@ pub extern "C" fn shabgozim_listing(state: &[u16], plan: &[u8], text: &mut [u8])
 }
 
 // Writes the report of a stored plan, from this state once it is idle and at rest, and leaves the state at the plan's end.
-#[unsafe(no_mangle)]
-pub extern "C" fn shabgozim_report(state: &mut [u16], plan: &[u8], text: &mut [u8]) -> u64
+pub fn shabgozim_report(state: &mut [u16], plan: &[u8], text: &mut [u8]) -> u64
     ensures value { result ≡ report_answer state.old plan.now text.old }
     ensures state_after { state.new ≡ report_state state.old plan.now text.old }
     ensures text_after { text.new ≡ report_left state.old plan.now text.old }
@@ -45,8 +42,7 @@ pub extern "C" fn shabgozim_report(state: &mut [u16], plan: &[u8], text: &mut [u
 }
 
 // Writes a refusal of a plan in words.
-#[unsafe(no_mangle)]
-pub extern "C" fn shabgozim_refusal(number: u8, place: u32, plan: &[u8], text: &mut [u8]) -> u32
+pub fn shabgozim_refusal(number: u8, place: u32, plan: &[u8], text: &mut [u8]) -> u32
     ensures value { result ≡ refusal_length number place plan.now text.old }
     ensures text_after { text.new ≡ refusal_left number place plan.now text.old }
 {
@@ -58,8 +54,7 @@ pub extern "C" fn shabgozim_refusal(number: u8, place: u32, plan: &[u8], text: &
 }
 
 // Reads a list of timed words from text.
-#[unsafe(no_mangle)]
-pub extern "C" fn shabgozim_read_list(text: &[u8], words: &mut [u16], ticks: &mut [u32]) -> u64
+pub fn shabgozim_read_list(text: &[u8], words: &mut [u16], ticks: &mut [u32]) -> u64
     ensures value { result ≡ read_answer text.now (length words.old) (length ticks.old) }
     ensures words_after { words.new ≡ words_left text.now words.old ticks.old }
     ensures ticks_after { ticks.new ≡ ticks_left text.now words.old ticks.old }
@@ -68,8 +63,7 @@ pub extern "C" fn shabgozim_read_list(text: &[u8], words: &mut [u16], ticks: &mu
 }
 
 // Writes the inspection of a list that is given to a head at power-on.
-#[unsafe(no_mangle)]
-pub extern "C" fn shabgozim_inspection(words: &[u16], ticks: &[u32], text: &mut [u8]) -> u64
+pub fn shabgozim_inspection(words: &[u16], ticks: &[u32], text: &mut [u8]) -> u64
     ensures value { result ≡ inspection_answer words.now ticks.now text.old }
     ensures text_after { text.new ≡ inspection_left words.now ticks.now text.old }
 {
@@ -77,8 +71,7 @@ pub extern "C" fn shabgozim_inspection(words: &[u16], ticks: &[u32], text: &mut 
 }
 
 // Writes a refusal of a text in words.
-#[unsafe(no_mangle)]
-pub extern "C" fn shabgozim_list_refusal(number: u8, line: u32, text: &mut [u8]) -> u32
+pub fn shabgozim_list_refusal(number: u8, line: u32, text: &mut [u8]) -> u32
     ensures value { result ≡ list_refusal_length number line text.old }
     ensures text_after { text.new ≡ list_refusal_left number line text.old }
 {
@@ -90,8 +83,7 @@ pub extern "C" fn shabgozim_list_refusal(number: u8, line: u32, text: &mut [u8])
 }
 
 // Writes the table of upper bytes.
-#[unsafe(no_mangle)]
-pub extern "C" fn shabgozim_upper_bytes(text: &mut [u8]) -> u64
+pub fn shabgozim_upper_bytes(text: &mut [u8]) -> u64
     ensures value { result ≡ room_answer table_text text.old }
     ensures text_after { text.new ≡ text_after (has_room table_text text.old) table_text text.old }
 {

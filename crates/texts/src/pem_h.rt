@@ -14,8 +14,7 @@ use pixels::lighted;
 const MOST_WORDING: usize = 256;
 
 // Writes the picture of a pixel map.
-#[unsafe(no_mangle)]
-pub extern "C" fn shabgozim_h_picture(map: &[u8], text: &mut [u8]) -> u64
+pub fn shabgozim_h_picture(map: &[u8], text: &mut [u8]) -> u64
     ensures value { result ≡ picture_answer map.now text.old }
     ensures text_after { text.new ≡ picture_left map.now text.old }
 {
@@ -38,8 +37,7 @@ fn put_words(number: u8, text: &mut [u8]) -> u32
 }
 
 // Writes a refusal of a map or of a request in words.
-#[unsafe(no_mangle)]
-pub extern "C" fn shabgozim_h_refusal(number: u8, text: &mut [u8]) -> u32
+pub fn shabgozim_h_refusal(number: u8, text: &mut [u8]) -> u32
     ensures value { result ≡ words_length (is_pem_h_refusal number) (refusal_text number) text.old }
     ensures text_after { text.new ≡ words_left (is_pem_h_refusal number) (refusal_text number) text.old }
 {

@@ -16,8 +16,7 @@ const MOST_WORDING: usize = 256;
 const SAME_TICK: u8 = 53;
 
 // Reads two text lists, merges them, and writes the merge as text.
-#[unsafe(no_mangle)]
-pub extern "C" fn shabgozim_merge_texts(ccd: &[u8], infrared: &[u8], text: &mut [u8]) -> u64
+pub fn shabgozim_merge_texts(ccd: &[u8], infrared: &[u8], text: &mut [u8]) -> u64
     ensures value { result ≡ merge_texts_answer ccd.now infrared.now text.old }
     ensures text_after { text.new ≡ merge_texts_left ccd.now infrared.now text.old }
 {
@@ -40,8 +39,7 @@ fn put_words(number: u8, text: &mut [u8]) -> u32
 }
 
 // Writes a refusal of a word that is not passed on, or of merging, in words.
-#[unsafe(no_mangle)]
-pub extern "C" fn shabgozim_operator_refusal(number: u8, text: &mut [u8]) -> u32
+pub fn shabgozim_operator_refusal(number: u8, text: &mut [u8]) -> u32
     ensures value { result ≡ words_length (is_operator_refusal number) (refusal_text number) text.old }
     ensures text_after { text.new ≡ words_left (is_operator_refusal number) (refusal_text number) text.old }
 {

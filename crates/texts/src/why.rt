@@ -55,8 +55,7 @@ fn put_line(diagnosis: Diagnosis, text: &mut [u8]) -> u32
 }
 
 // Writes an answer of `shabgozim_why` in words.
-#[unsafe(no_mangle)]
-pub extern "C" fn shabgozim_explanation(why: u32, text: &mut [u8]) -> u32
+pub fn shabgozim_explanation(why: u32, text: &mut [u8]) -> u32
     ensures value { result ≡ words_length (is_why why) (explanation_text (unpacked_why why)) text.old }
     ensures text_after { text.new ≡ words_left (is_why why) (explanation_text (unpacked_why why)) text.old }
 {
