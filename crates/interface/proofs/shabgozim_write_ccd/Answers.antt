@@ -16,7 +16,7 @@ pub returns-then-not-well_formed : goal.returns-then-not-well_formed
 returns-then-not-well_formed c = search (rules, ill-number, ill-left)
 
 pub load-head-requires : goal.load-head-requires
-load-head-requires c = long _ _ c.before.well-formed-2.ensures c.if-not-well_formed.false
+load-head-requires c = long _ _ c.before.well_formed-2.ensures c.if-not-well_formed.false
 
 pub returns : goal.returns
 unfolding ccd_block_for

@@ -5,4 +5,4 @@ use Rattle.interface.proofs.answers.flag_bits.Goals as goal
 
 pub returns : goal.returns
 unfolding flag_bits
-returns c = (cc, search rules)
+returns c = record { value = cc; upper_bound = search rules }
