@@ -32,13 +32,6 @@ pub listing-written : {l : List ℕ} {p : ℕ} {m : List ℕ} → Written l 0 he
 unfolding listing_of
 listing-written first ts ws lines end last = written_then (written_then first lines) last
 
--- the promises of `list_plan`: the number and the place are those of the answer
-abbrev pub Promised : Head → List ℕ → Listed → List ℕ → List ℕ → Type 0
-Promised s bs r old new =
-    (r ≡ listed_of s bs)
-    × ((new ≡ listed_after s bs old)
-    × ((listing_number r ≡ translation_number s bs most_words most_words) × (listing_place r ≡ translation_place s bs)))
-
 listed-number : (t : Translated) (n : ℕ) → listing_number (listed_by t n) ≡ translated_number t
 unfolding listed_by
 listed-number (Translated.Done c e) n = refl
@@ -51,18 +44,16 @@ listed-place (Translated.Done c e) n = refl
 listed-place (Translated.Refused m p) n = refl
 listed-place (Translated.Short c) n = refl
 
-pub promised : (s : Head) (bs : List ℕ) {r : Listed} (old : List ℕ) {new : List ℕ} → r ≡ listed_of s bs → new ≡ listed_after s bs old → Promised s bs r old new
-unfolding listed_of
-promised s bs old is after = (
-  is,
-  (
-    after,
-    (
-      ap listing_number is ∙ listed-number (translate_of s bs most_words most_words) (length (plan_text s bs)) ∙ translation-number s bs most_words most_words,
-      ap listing_place is ∙ listed-place (translate_of s bs most_words most_words) (length (plan_text s bs)) ∙ translation-place s bs most_words most_words,
-    ),
-  ),
-)
+module _ (s : Head) (bs : List ℕ) {r : Listed} (is : r ≡ listed_of s bs) where
+  pub number-of : listing_number r ≡ translation_number s bs most_words most_words
+  unfolding listed_of
+  number-of =
+      ap listing_number is ∙ listed-number (translate_of s bs most_words most_words) (length (plan_text s bs)) ∙ translation-number s bs most_words most_words
+
+  pub place-of : listing_place r ≡ translation_place s bs
+  unfolding listed_of
+  place-of =
+      ap listing_place is ∙ listed-place (translate_of s bs most_words most_words) (length (plan_text s bs)) ∙ translation-place s bs most_words most_words
 
 pub differ : {A : Type 0} → ◌≡◌ {A = ℕ} 0 1 → A
 differ z = absurd (omega arith)

@@ -3,4 +3,7 @@ use borrow.Author.Rules.{rules}
 use Rattle.text.proofs.listing.list_at_power_on.Goals as goal
 
 pub returns : goal.returns
-returns c = rw (← c.power_on.ensures) (c.list_plan.ensures.0, c.list_plan.ensures.1.0)
+returns c = record {
+  value = rw (← c.power_on.ensures) c.list_plan.ensures.value;
+  out_after = rw (← c.power_on.ensures) c.list_plan.ensures.out_after;
+}
