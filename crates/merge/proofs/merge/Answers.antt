@@ -9,6 +9,9 @@ offset_bounds-ccd-start c = search (rules, ccd-scaled)
 pub slice_bounds-result-count : goal.slice_bounds-result-count
 slice_bounds-result-count c = search (rules, ccd-within)
 
+pub slice_bounds-result-start : goal.slice_bounds-result-start
+slice_bounds-result-start c = search (rules, ccd-within)
+
 pub returns-then-told-eq-CCD : goal.returns-then-told-eq-CCD
 returns-then-told-eq-CCD c = search (rules, ccd-handed)
 
@@ -17,6 +20,9 @@ offset_bounds-infrared-start c = search (rules, infrared-scaled)
 
 pub slice_bounds-result-count-2 : goal.slice_bounds-result-count-2
 slice_bounds-result-count-2 c = search (rules, infrared-within)
+
+pub slice_bounds-result-start-2 : goal.slice_bounds-result-start-2
+slice_bounds-result-start-2 c = search (rules, infrared-within)
 
 pub returns : goal.returns
 returns c = search (rules, infrared-handed)

@@ -10,4 +10,4 @@ pub write-requires : goal.write-requires
 write-requires c = search (rules, done-room)
 
 pub returns : goal.returns
-returns c = (search rules, (search rules, search (rules, output-done)))
+returns c = record { value = search rules; result_value = search rules; merged_after = search (rules, output-done) }

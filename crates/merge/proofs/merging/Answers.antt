@@ -1,4 +1,6 @@
 -- `merge::merging` meets its contract.
+use mathlib.Core.Path.{ap}
+use mathlib.Core.Bool.{not}
 use borrow.Author.Rules.{rules}
 use Rattle.merge.proofs.Answers.{merging-number, judged-ccd, judged-infrared, judged-same, judged-short, judged-done, judged-rises}
 use Rattle.merge.proofs.merging.Goals as goal
@@ -11,8 +13,10 @@ returns-then-not-rises-2 c = search (rules, judged-infrared, merging-number)
 
 pub walk-walked-requires : goal.walk-walked-requires
 walk-walked-requires c =
-    let first = judged-rises _ c.rises.ensures c.if-not-rises.false in
-    (first, judged-rises _ c.rises-2.ensures c.if-not-rises-2.false)
+    record {
+      fact_1 = judged-rises _ c.rises.ensures (ap not c.if-not-rises.false);
+      fact_2 = judged-rises _ c.rises-2.ensures (ap not c.if-not-rises-2.false);
+    }
 
 pub returns-then-same : goal.returns-then-same
 returns-then-same c = search (rules, judged-same, merging-number)
