@@ -8,4 +8,5 @@ returns c =
     let a = c.args in
     let first = c.put_word.ensures in
     let second = c.put_word-2.ensures in
-    laid-pair a.words.now a.ticks.now a.at a.tick a.first a.second first second
+    let e = laid-pair a.words.now a.ticks.now a.at a.tick a.first a.second (first.words_after, first.ticks_after) (second.words_after, second.ticks_after) in
+    record { words_after = e.0; ticks_after = e.1 }

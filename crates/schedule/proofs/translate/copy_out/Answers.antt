@@ -7,7 +7,7 @@ use Rattle.schedule.proofs.translate.copy_out.Goals as goal
 pub loop-i-init : goal.loop-i-init
 loop-i-init c =
     let p = c.requires in
-    (copying-first p.0 p.1.1.0, copying-first p.1.0 p.1.1.1)
+    (copying-first p.fact_1 p.fact_3, copying-first p.fact_2 p.fact_4)
 
 pub offset_bounds-sent-i : goal.offset_bounds-sent-i
 offset_bounds-sent-i c = omega arith
@@ -51,4 +51,5 @@ pub shape_of-ticks : goal.shape_of-ticks
 shape_of-ticks c = c.loop-i.invariant.1.long
 
 pub returns : goal.returns
-returns c = (copied c.loop-i.invariant.0 (omega arith), copied c.loop-i.invariant.1 (omega arith))
+returns c =
+    record { words_after = copied c.loop-i.invariant.0 (omega arith); ticks_after = copied c.loop-i.invariant.1 (omega arith) }
