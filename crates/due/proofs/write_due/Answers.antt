@@ -2,7 +2,7 @@
 use Prim.Native.Nat.{ℕ}
 use mathlib.Core.Bool.{Bool}
 use mathlib.Core.List.{List}
-use mathlib.Core.Path.{◌≡◌, ap}
+use mathlib.Core.Path.{◌≡◌, refl, ap}
 use Rattle.head.specs.declared.state.Head.{Head}
 use Rattle.head.specs.declared.state.Flags.{Flags}
 use Rattle.head.specs.declared.state.Task.{Task}
@@ -15,7 +15,7 @@ use Rattle.blocks.specs.declared.written.Written.{Written}
 use Rattle.blocks.specs.declared.ir.IrBits.{IrBits}
 use Rattle.blocks.specs.declared.ccd.CcdBits.{CcdBits}
 use Rattle.due.specs.declared.DueWritten.TheVariants.{Blocks}
-use Rattle.due.specs.Due.{acquisition, both_written_of, due_written_of, ir_due_after, ccd_due_after}
+use Rattle.due.specs.Due.{acquisition, both_written_of, due_written_of, due_number, ir_due_after, ccd_due_after}
 use Rattle.due.proofs.Numbered.{due-numbered}
 use borrow.Author.Rules.{rules}
 use Rattle.due.proofs.write_due.Goals as goal
@@ -38,17 +38,30 @@ module _ (s : Head) (d : Due) (ended : Task) (flags : Flags) (acquired : Bool) (
   ccd-due after readings bits left = rw told (rw (both, first) at left)
 
 pub returns-in-Nothing : goal.returns-in-Nothing
-unfolding due_written_of ir_due_after ccd_due_after
+unfolding due_written_of ir_due_after ccd_due_after due_number
 returns-in-Nothing c =
-    let told = c.enum_told-1.given.1 in
-    due-numbered _ _ _ _ _ (rw told) _ _ _ _ _ _ (rw told) (rw told)
+    let told = c.in-Nothing.is in
+    record { value = rw told; result_value = rw told; result_value_2 = refl; ir_after = rw told; ccd_after = rw told }
 
 pub returns-in-Blocks : goal.returns-in-Blocks
 returns-in-Blocks c =
-    due-numbered _ _ _ _ _ (search (rules, blocks-due)) _ _ _ _ _ _ (search (rules, ir-due)) (search (rules, ccd-due))
+    let is : Blocks c.write_both.result ≡ due_written_of c.args.ticked.head c.args.ticked.due c.args.ir.now c.args.ccd.now =
+    search (rules, blocks-due) in
+    let ir : c.write_both.new.ir ≡ ir_due_after c.args.ticked.head c.args.ticked.due c.args.given.irreadings c.args.given.irbits c.args.ir.now c.args.ccd.now =
+    search (rules, ir-due) in
+    let ccd : c.write_both.new.ccd ≡ ccd_due_after c.args.ticked.head c.args.ticked.due c.args.given.ccdreadings c.args.given.ccdbits c.args.ir.now c.args.ccd.now =
+    search (rules, ccd-due) in
+    let told = due-numbered _ _ _ _ _ is _ _ _ _ _ _ ir ccd in
+    record {
+      value = is;
+      result_value = told.1.0;
+      result_value_2 = told.1.1.0;
+      ir_after = ir;
+      ccd_after = ccd;
+    }
 
 pub returns-in-Refused : goal.returns-in-Refused
-unfolding due_written_of ir_due_after ccd_due_after
+unfolding due_written_of ir_due_after ccd_due_after due_number
 returns-in-Refused c =
-    let told = c.enum_told-in-Refused-1.given.1 in
-    due-numbered _ _ _ _ _ (rw told) _ _ _ _ _ _ (rw told) (rw told)
+    let told = c.in-Refused.is in
+    record { value = rw told; result_value = rw told; result_value_2 = refl; ir_after = rw told; ccd_after = rw told }

@@ -1,6 +1,7 @@
 -- `blocks::ir::write_ir` meets its contract.
-use Rattle.blocks.specs.Written.{written_of}
-use Rattle.blocks.specs.Ir.{ir_status, ir_block_of}
+use mathlib.Core.Path.{◌≡◌}
+use Rattle.blocks.specs.Written.{written_of, buffer_after}
+use Rattle.blocks.specs.Ir.{ir_words, ir_status, ir_block_of}
 use Rattle.blocks.proofs.Numbered.{write-numbered}
 use Rattle.blocks.proofs.Writing.{written-by, written-left}
 use borrow.Author.Rules.{rules}
@@ -9,5 +10,9 @@ use Rattle.blocks.proofs.ir.write_ir.Goals as goal
 pub returns : goal.returns
 unfolding ir_block_of written_of
 returns c =
-    write-numbered _ _ _ _ (search (rules, written-by 14 6, slice-aggregate-write-block)) _ _
-    (search (rules, written-left ir_status))
+    let is : c.write_block.result ≡ written_of ir_words c.args.head c.args.buffer.now =
+    search (rules, written-by 14 6) in
+    let left : c.write_block.new.buffer ≡ buffer_after c.write_block.result (ir_block_of c.args.head c.args.flags c.args.acquired c.args.readings c.args.bits) c.args.buffer.now =
+    search (rules, written-left ir_status) in
+    let told = write-numbered _ _ _ _ is _ _ left in
+    record { value = is; result_value = told.1.0; result_value_2 = told.1.1.0; buffer_after = left }
