@@ -4,4 +4,7 @@ use borrow.Author.Rules.{rules}
 use Rattle.report.proofs.printed.report_from_power_on.Goals as goal
 
 pub returns : goal.returns
-returns c = told-on _ _ c.power_on.ensures c.report-reported.ensures.0 c.report-reported.ensures.1.0 c.without_head.ensures
+returns c =
+    let e = c.report-reported.ensures in
+    let w = told-on _ _ c.power_on.ensures e.value e.out_after c.without_head.ensures in
+    record { value = w.0; out_after = w.1 }

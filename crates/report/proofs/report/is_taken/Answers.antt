@@ -5,7 +5,7 @@ use borrow.Author.Rules.{rules}
 use Rattle.report.proofs.report.is_taken.Goals as goal
 
 pub returns-then-is_cause : goal.returns-then-is_cause
-returns-then-is_cause c = (search (rules, cause-none), omega arith)
+returns-then-is_cause c = record { fact_1 = search (rules, cause-none); fact_2 = omega arith }
 
 pub returns : goal.returns
-returns c = (search (rules, taken-one), omega arith)
+returns c = record { fact_1 = search (rules, taken-one); fact_2 = omega arith }

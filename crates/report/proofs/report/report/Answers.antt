@@ -1,67 +1,106 @@
 -- `report::report::report` meets its contract: each way through the code is a law of `Simulated`.
-use mathlib.Core.Path.{refl, sym}
+use mathlib.Core.Path.{◌≡◌, refl, sym}
+use mathlib.Core.List.{List}
+use Prim.Native.Nat.{ℕ}
 use lib.ListN.{replicate}
-use Rattle.schedule.specs.Translate.{most_words}
+use Rattle.head.specs.Busy.{rest_ticks}
+use Rattle.head.specs.Tick.{ticks_of}
+use Rattle.head.specs.declared.state.Head.{Head}
+use Rattle.plan.specs.Stored.{plan_of}
+use Rattle.schedule.specs.Translate.{most_words, schedule_of, translate_of, filled, word_list, tick_list}
+use Rattle.run.specs.Rehearse.{run_record}
+use Rattle.run.specs.Compare.{compared_of}
+use Rattle.run.specs.declared.compare.Compared.{Compared}
 use Rattle.report.proofs.Simulated.{Simulated, words-room, ticks-room, words_long, ticks-long, given-asks, accepted, rows_long, way-done, way-refused}
-use borrow.Author.Rules.{rules}
 use Rattle.report.proofs.report.report.Goals as goal
 
 -- after the comparison
-simulated : (t : tie.After-compare)
-    → Simulated t.before.before.before.before.before.before.before.before.before.args.head
-    t.before.before.before.before.before.before.before.before.before.args.plan.now
-    (replicate most_words 0)
-    (replicate most_words 0)
-    (replicate 1365 0)
-    t.before.before.before.before.before.before.rest-ticks.result
-    t.before.before.before.before.before.pass.result
-    t.compare.result
-    t.compare.new.1.1.0
-    t.compare.new.1.1.1.0
-    t.compare.new.1.1.1.1.0
-simulated t =
-    let e = t.compare.ensures in
+simulated : {given : Head} {bs : List ℕ} {rest : ℕ} {s : Head} {c : Compared} {W' T' R' : List ℕ}
+    → rest ≡ rest_ticks given
+    → s ≡ ticks_of rest given
+    → c ≡ compared_of s bs
+    → W' ≡ filled (translate_of s bs most_words most_words) (word_list (schedule_of s (plan_of bs))) (replicate most_words 0)
+    → T' ≡ filled (translate_of s bs most_words most_words) (tick_list (schedule_of s (plan_of bs))) (replicate most_words 0)
+    → R' ≡ filled (translate_of s bs most_words most_words) (run_record s (schedule_of s (plan_of bs))) (replicate 1365 0)
+    → Simulated given bs (replicate most_words 0) (replicate most_words 0) (replicate 1365 0) rest s c W' T' R'
+simulated ticks start is words_is ticks_is rows_is =
     record {
-      ticks = t.before.before.before.before.before.before.rest-ticks.ensures;
-      start = t.before.before.before.before.before.pass.ensures;
+      ticks = ticks;
+      start = start;
       long_w = refl;
       long_t = refl;
       long_r = refl;
-      is = e.0;
-      words_is = e.1.0;
-      ticks_is = e.1.1.0;
-      rows_is = e.1.1.1.0;
+      is = is;
+      words_is = words_is;
+      ticks_is = ticks_is;
+      rows_is = rows_is;
     }
 
 pub slice_bounds-words-end : goal.slice_bounds-words-end
-slice_bounds-words-end c = words-room (simulated c.before.before.before) c.answer-1.given.1
+slice_bounds-words-end c =
+    let e = c.compare-answer.ensures in
+    let s = simulated c.rest_ticks-rest.ensures c.pass-start.ensures e.value e.words_after e.ticks_after e.rows_after in
+    words-room s c.in-Done.is
 
 pub slice_bounds-taken_words-end : goal.slice_bounds-taken_words-end
-slice_bounds-taken_words-end c = words_long (simulated c.before.before.before.before) c.answer-1.given.1
+slice_bounds-taken_words-end c =
+    let e = c.compare-answer.ensures in
+    let s = simulated c.rest_ticks-rest.ensures c.pass-start.ensures e.value e.words_after e.ticks_after e.rows_after in
+    words_long s c.in-Done.is
 
 pub slice_bounds-ticks-end : goal.slice_bounds-ticks-end
-slice_bounds-ticks-end c = ticks-room (simulated c.before.before.before.before) c.answer-1.given.1
+slice_bounds-ticks-end c =
+    let e = c.compare-answer.ensures in
+    let s = simulated c.rest_ticks-rest.ensures c.pass-start.ensures e.value e.words_after e.ticks_after e.rows_after in
+    ticks-room s c.in-Done.is
 
 pub slice_bounds-taken_words-end-in-Done : goal.slice_bounds-taken_words-end-in-Done
-slice_bounds-taken_words-end-in-Done c = ticks-long (simulated c.before.before.before.before.before) c.answer-1.given.1
+slice_bounds-taken_words-end-in-Done c =
+    let e = c.compare-answer.ensures in
+    let s = simulated c.rest_ticks-rest.ensures c.pass-start.ensures e.value e.words_after e.ticks_after e.rows_after in
+    ticks-long s c.in-Done.is
 
 pub taken_words-taken-requires : goal.taken_words-taken-requires
-taken_words-taken-requires c = given-asks (simulated c.before.before.before.before.before) c.answer-1.given.1
+taken_words-taken-requires c =
+    let e = c.compare-answer.ensures in
+    let s = simulated c.rest_ticks-rest.ensures c.pass-start.ensures e.value e.words_after e.ticks_after e.rows_after in
+    let a = given-asks s c.in-Done.is in
+    record { fact_1 = a.0; fact_2 = a.1.0; fact_3 = a.1.1 }
 
 pub slice_bounds-ticks-end-in-Done : goal.slice_bounds-ticks-end-in-Done
-slice_bounds-ticks-end-in-Done c = ticks-room (simulated c.before.before.before.before.before.before.before) c.answer-1.given.1
+slice_bounds-ticks-end-in-Done c =
+    let e = c.compare-answer.ensures in
+    let s = simulated c.rest_ticks-rest.ensures c.pass-start.ensures e.value e.words_after e.ticks_after e.rows_after in
+    ticks-room s c.in-Done.is
 
 pub slice_bounds-put_report-end : goal.slice_bounds-put_report-end
-slice_bounds-put_report-end c = ticks-long (simulated c.before.before.before.before.before.before.before.before) c.answer-1.given.1
+slice_bounds-put_report-end c =
+    let e = c.compare-answer.ensures in
+    let s = simulated c.rest_ticks-rest.ensures c.pass-start.ensures e.value e.words_after e.ticks_after e.rows_after in
+    ticks-long s c.in-Done.is
 
 pub slice_bounds-put_report-end-in-Done : goal.slice_bounds-put_report-end-in-Done
-slice_bounds-put_report-end-in-Done c = sym (rows_long (simulated c.before.before.before.before.before.before.before.before.before) c.answer-1.given.1)
+slice_bounds-put_report-end-in-Done c =
+    let e = c.compare-answer.ensures in
+    let s = simulated c.rest_ticks-rest.ensures c.pass-start.ensures e.value e.words_after e.ticks_after e.rows_after in
+    sym (rows_long s c.in-Done.is)
 
 pub put_report-length-requires : goal.put_report-length-requires
-put_report-length-requires c = (accepted (simulated c.before.before.before.before.before.before.before.before.before) c.answer-1.given.1, rows_long (simulated c.before.before.before.before.before.before.before.before.before) c.answer-1.given.1)
+put_report-length-requires c =
+    let e = c.compare-answer.ensures in
+    let s = simulated c.rest_ticks-rest.ensures c.pass-start.ensures e.value e.words_after e.ticks_after e.rows_after in
+    record { fact_1 = accepted s c.in-Done.is; fact_2 = rows_long s c.in-Done.is }
 
 pub returns-in-Done : goal.returns-in-Done
-returns-in-Done c = way-done (simulated c.before.before.before.before.before.before.before.before.before.before.before.before) c.answer-1.given.1 c.compare-answer.ensures.1.1.1.1.1.0 c.compare-answer.ensures.1.1.1.1.1.1 c.taken_words-taken.ensures c.put_report-length.ensures
+returns-in-Done c =
+    let e = c.compare-answer.ensures in
+    let s = simulated c.rest_ticks-rest.ensures c.pass-start.ensures e.value e.words_after e.ticks_after e.rows_after in
+    let w = way-done s c.in-Done.is e.result_value e.result_value_2 c.taken_words-taken.ensures c.put_report-length.ensures in
+    record { value = w.0; out_after = w.1.0; result_value = w.1.1.0; result_value_2 = w.1.1.1 }
 
 pub returns-in-Refused : goal.returns-in-Refused
-returns-in-Refused c = way-refused (simulated c.before.before.before) c.compare-answer.ensures.1.1.1.1.1.0 c.compare-answer.ensures.1.1.1.1.1.1 c.answer-in-Refused-1.given.1 _
+returns-in-Refused c =
+    let e = c.compare-answer.ensures in
+    let s = simulated c.rest_ticks-rest.ensures c.pass-start.ensures e.value e.words_after e.ticks_after e.rows_after in
+    let w = way-refused s e.result_value e.result_value_2 c.in-Refused.is _ in
+    record { value = w.0; out_after = w.1.0; result_value = w.1.1.0; result_value_2 = w.1.1.1 }

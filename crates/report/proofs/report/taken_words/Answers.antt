@@ -9,4 +9,4 @@ pub slice_bounds-taken_in-end : goal.slice_bounds-taken_in-end
 slice_bounds-taken_in-end c = prefix-long _ _ (omega (arith, c.list.auto, c.requires))
 
 pub returns : goal.returns
-returns c = given-taken _ _ _ _ refl c.requires.0 c.requires.1.1 c.list.ensures.0 c.list.ensures.1.0 c.taken_in.ensures
+returns c = given-taken _ _ _ _ refl c.requires.fact_1 c.requires.fact_3 c.list.ensures.value c.list.ensures.outcomes_after c.taken_in.ensures
