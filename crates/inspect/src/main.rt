@@ -5,15 +5,16 @@
 use import::read::MOST_BYTES;
 use imported::printed::printed;
 use inspection::inspection::LONGEST;
-use libc::{STDERR_FILENO, STDIN_FILENO, STDOUT_FILENO};
+use std::io;
+use std::io::Read;
 
-fn main() {
+fn main(rt: HostRuntime) -> io::Result<()> {
     // One byte more than a text may have tells whether the input is too long.
-    let mut text = [0u8; MOST_BYTES + 1];
-    let n = io::read_full(STDIN_FILENO, &mut text);
+    let mut text = Vec::new(rt.alloc());
+    rt.stdin()
+        .take(MOST_BYTES as u64 + 1)
+        .read_to_end(&mut text)?;
     let mut out = [0u8; LONGEST];
-    let k = printed(&text[..n], &mut out);
-    if !io::write_all(STDOUT_FILENO, &out[..k]) {
-        io::write_all(STDERR_FILENO, b"inspect: could not write\n");
-    }
+    let n = printed(&text, &mut out);
+    rt.write_all(&out[..n])
 }

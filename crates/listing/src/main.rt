@@ -2,16 +2,17 @@
 // it is refused.
 #![tactic(auto)]
 
-use libc::{STDERR_FILENO, STDIN_FILENO, STDOUT_FILENO};
+use std::io;
+use std::io::Read;
 use text::listing::{LONGEST, MOST_INPUT, listing};
 
-fn main() {
+fn main(rt: HostRuntime) -> io::Result<()> {
     // One byte more than a plan may have tells whether the input is too long.
-    let mut plan = [0u8; MOST_INPUT + 1];
-    let n = io::read_full(STDIN_FILENO, &mut plan);
+    let mut plan = Vec::new(rt.alloc());
+    rt.stdin()
+        .take(MOST_INPUT as u64 + 1)
+        .read_to_end(&mut plan)?;
     let mut out = [0u8; LONGEST];
-    let k = listing(&plan[..n], &mut out);
-    if !io::write_all(STDOUT_FILENO, &out[..k]) {
-        io::write_all(STDERR_FILENO, b"listing: could not write\n");
-    }
+    let n = listing(&plan, &mut out);
+    rt.write_all(&out[..n])
 }

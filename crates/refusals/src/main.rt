@@ -2,39 +2,31 @@
 #![tactic(auto)]
 
 use head::state::Head;
-use libc::{STDERR_FILENO, STDOUT_FILENO};
 use schedule::Translated;
 use schedule::translate::{MOST_WORDS, translate};
+use std::io;
 use text::lines::refusal_line;
 
-fn check_written(written: bool) {
-    if !written {
-        io::write_all(STDERR_FILENO, b"refusals: could not write\n");
-    }
-}
-
-fn print_refusal(answer: Translated) {
+fn print_refusal(rt: &impl Print, answer: Translated) -> io::Result<()> {
     let mut line = [0u8; 64];
     let n = refusal_line(answer.number(), answer.place(), &mut line);
-    check_written(io::write_all(STDOUT_FILENO, &line[..n]));
+    rt.write_all(&line[..n])
 }
 
-fn print_count(count: usize) {
-    check_written(io::write_all(STDOUT_FILENO, b"count "));
-    check_written(io::print_decimal(STDOUT_FILENO, count as u64));
-    check_written(io::write_all(STDOUT_FILENO, b"\n"));
+fn print_count(rt: &impl Print, count: usize) -> io::Result<()> {
+    println!(rt; "count {count}")
 }
 
-fn show(answer: Translated) {
+fn show(rt: &impl Print, answer: Translated) -> io::Result<()> {
     match answer {
-        Translated::Done { count, end: _ } => print_count(count),
+        Translated::Done { count, end: _ } => print_count(rt, count),
         Translated::Refused {
             number: _,
             place: _,
-        } => print_refusal(answer),
+        } => print_refusal(rt, answer),
         Translated::Short { count } => {
-            print_refusal(answer);
-            print_count(count);
+            print_refusal(rt, answer)?;
+            print_count(rt, count)
         }
     }
 }
@@ -45,8 +37,8 @@ fn translated(head: Head, plan: &[u8]) -> Translated {
     translate(head, plan, &mut words, &mut ticks)
 }
 
-fn at_power_on(plan: &[u8]) {
-    show(translated(Head::power_on(), plan));
+fn at_power_on(rt: &impl Print, plan: &[u8]) -> io::Result<()> {
+    show(rt, translated(Head::power_on(), plan))
 }
 
 // Housekeeping 65 times.
@@ -63,43 +55,40 @@ fn too_many() -> [u8; 133] {
 }
 
 // Refusals of the plan as a whole: 2, 3, 4 and 9.
-fn whole_plans() {
-    at_power_on(b"\x01\x00");
-    at_power_on(b"\x02\x00\x00");
-    at_power_on(b"\x01\x00\x02\x01");
-    at_power_on(&too_many());
+fn whole_plans(rt: &impl Print) -> io::Result<()> {
+    at_power_on(rt, b"\x01\x00")?;
+    at_power_on(rt, b"\x02\x00\x00")?;
+    at_power_on(rt, b"\x01\x00\x02\x01")?;
+    at_power_on(rt, &too_many())
 }
 
 // Refusals of the second order, 5-8: length 0, length past the end, code 18, a length not of its code, window mode 2.
-fn orders() {
-    at_power_on(b"\x01\x00\x03\x01\x0F\x00");
-    at_power_on(b"\x01\x00\x04\x01\x0F\x02\x0F");
-    at_power_on(b"\x01\x00\x04\x01\x0F\x01\x12");
-    at_power_on(b"\x01\x00\x05\x01\x0F\x02\x0F\x00");
-    at_power_on(b"\x01\x00\x05\x01\x0F\x02\x05\x02");
+fn orders(rt: &impl Print) -> io::Result<()> {
+    at_power_on(rt, b"\x01\x00\x03\x01\x0F\x00")?;
+    at_power_on(rt, b"\x01\x00\x04\x01\x0F\x02\x0F")?;
+    at_power_on(rt, b"\x01\x00\x04\x01\x0F\x01\x12")?;
+    at_power_on(rt, b"\x01\x00\x05\x01\x0F\x02\x0F\x00")?;
+    at_power_on(rt, b"\x01\x00\x05\x01\x0F\x02\x05\x02")
 }
 
 // 1: a head that is busy with an acquisition.
-fn busy_head() {
+fn busy_head(rt: &impl Print) -> io::Result<()> {
     let started = Head::power_on().word(0x8000).head;
-    show(translated(started, b"\x01\x00\x00"));
+    show(rt, translated(started, b"\x01\x00\x00"))
 }
 
 // 10: an exposure and housekeeping, with room for one of the two words.
-fn short_buffers() {
+fn short_buffers(rt: &impl Print) -> io::Result<()> {
     let mut words = [0u16; 1];
     let mut ticks = [0u32; 2];
-    show(translate(
-        Head::power_on(),
-        b"\x01\x00\x04\x01\x0F\x01\x10",
-        &mut words,
-        &mut ticks,
-    ));
+    let plan = b"\x01\x00\x04\x01\x0F\x01\x10";
+    let answer = translate(Head::power_on(), plan, &mut words, &mut ticks);
+    show(rt, answer)
 }
 
-fn main() {
-    busy_head();
-    whole_plans();
-    orders();
-    short_buffers();
+fn main(rt: HostRuntime) -> io::Result<()> {
+    busy_head(&rt)?;
+    whole_plans(&rt)?;
+    orders(&rt)?;
+    short_buffers(&rt)
 }

@@ -5,73 +5,76 @@
 ghost use Rattle.io.specs.Counts.{IsPrefixLen};
 
 use head::state::Head;
-use libc::{STDERR_FILENO, STDOUT_FILENO};
 use report::refusal::put_refusal;
 use report::report::{LONGEST, Reported, report};
-
-fn print(text: &[u8]) {
-    if !io::write_all(STDOUT_FILENO, text) {
-        io::write_all(STDERR_FILENO, b"reports: could not write\n");
-    }
-}
+use std::io;
 
 // A length as a count of the bytes of a text.
 fn counted(length: usize, out: &[u8]) -> usize
     ensures { IsPrefixLen result out.now }
 {
     if length < LONGEST {
-        return io::count(length as isize, out);
+        return length.min(out.len());
     }
-    io::count(0, out)
+    0
 }
 
 // Prints the report of a plan or its refusal, and answers the head then.
-fn show(head: Head, plan: &[u8]) -> Head {
+fn show(rt: &impl Print, head: Head, plan: &[u8]) -> io::Result<Head> {
     let mut out = [0u8; LONGEST];
     let reported = report(head, plan, &mut out);
     match reported {
         Reported::Done { head: last, length } => {
             let n = counted(length, &out);
-            print(&out[..n]);
-            last
+            rt.write_all(&out[..n])?;
+            Ok(last)
         }
         Reported::Refused { number, place } => {
             let length = put_refusal(&mut out, 0, number, place, plan);
             let n = counted(length, &out);
-            print(&out[..n]);
-            head
+            rt.write_all(&out[..n])?;
+            Ok(head)
         }
     }
 }
 
 // Orders 1-17.
-fn every_order() {
+fn every_order(rt: &impl Print) -> io::Result<()> {
     show(
+        rt,
         Head::power_on(),
         b"\x01\x00\x4B\
           \x03\x01\x09\x88\x03\x02\x08\x98\x05\x03\x00\x0A\x00\x0A\x05\x04\x00\x06\x00\x14\x02\x05\x01\
           \x09\x06\x00\x94\x00\x00\x03\xFF\x01\xFF\x02\x07\x01\x03\x08\x01\x02\x03\x09\x01\x09\x03\x0A\x01\x05\x03\x0B\x01\x28\
           \x05\x0C\x00\x64\x0F\xA0\x02\x0D\x01\x05\x0E\x01\x01\x01\x51\x01\x0F\x01\x10\x03\x11\x03\xE8",
-    );
+    )?;
+    Ok(())
 }
 
 // Expose, mirror sine -256 and cosine 4088, expose.
-fn mirror_moved() {
+fn mirror_moved(rt: &impl Print) -> io::Result<()> {
     show(
+        rt,
         Head::power_on(),
         b"\x01\x00\x0A\x01\x0F\x05\x0C\xFF\x00\x0F\xF8\x01\x0F",
-    );
+    )?;
+    Ok(())
 }
 
 // Cover open by 81 steps; then IR delay and exposure 10, and an exposure. At last a plan that is refused.
-fn in_a_row() {
-    let moving = show(Head::power_on(), b"\x01\x00\x06\x05\x0E\x01\x00\x00\x51");
-    let last = show(moving, b"\x01\x00\x08\x05\x03\x00\x0A\x00\x0A\x01\x0F");
-    show(last, b"\x01\x00\x05\x01\x0F\x02\x05\x02");
+fn in_a_row(rt: &impl Print) -> io::Result<()> {
+    let moving = show(
+        rt,
+        Head::power_on(),
+        b"\x01\x00\x06\x05\x0E\x01\x00\x00\x51",
+    )?;
+    let last = show(rt, moving, b"\x01\x00\x08\x05\x03\x00\x0A\x00\x0A\x01\x0F")?;
+    show(rt, last, b"\x01\x00\x05\x01\x0F\x02\x05\x02")?;
+    Ok(())
 }
 
-fn main() {
-    every_order();
-    mirror_moved();
-    in_a_row();
+fn main(rt: HostRuntime) -> io::Result<()> {
+    every_order(&rt)?;
+    mirror_moved(&rt)?;
+    in_a_row(&rt)
 }

@@ -5,6 +5,7 @@ use blocks::ccd::CcdBits;
 use blocks::ir::IrBits;
 use due::{Given, write_due};
 use head::state::Head;
+use std::io;
 
 // The number of the head's answer; 0 for a word that is taken.
 fn answer(head: Head, word: u16) -> u64 {
@@ -12,36 +13,23 @@ fn answer(head: Head, word: u16) -> u64 {
     outcome.number() as u64
 }
 
-// Says on standard error that a line could not be written.
-fn say_failure(written: bool) {
-    if !written {
-        io::write_all(2, b"vectors: could not write\n");
-    }
+fn print_line(rt: &impl Print, name: &str, number: u64) -> io::Result<()> {
+    println!(rt; "{name} {number}")
 }
 
-fn print_line(name: &[u8], number: u64) {
-    let named = io::write_all(1, name);
-    let printed = io::print_decimal(1, number);
-    let ended = io::write_all(1, b"\n");
-    say_failure(named & printed & ended);
+fn print_word(rt: &impl Print, name: &str, word: u16) -> io::Result<()> {
+    println!(rt; "{name} {word:04x}")
 }
 
-fn print_word(name: &[u8], word: u16) {
-    let named = io::write_all(1, name);
-    let printed = io::print_hex(1, word as u64, 4);
-    let ended = io::write_all(1, b"\n");
-    say_failure(named & printed & ended);
-}
-
-fn words() {
+fn words(rt: &impl Print) -> io::Result<()> {
     let idle = Head::power_on();
     let busy = idle.word(0x8000).head;
-    print_line(b"AA00 ", answer(idle, 0xAA00));
-    print_line(b"C001 idle ", answer(idle, 0xC001));
-    print_line(b"C001 busy ", answer(busy, 0xC001));
+    print_line(rt, "AA00", answer(idle, 0xAA00))?;
+    print_line(rt, "C001 idle", answer(idle, 0xC001))?;
+    print_line(rt, "C001 busy", answer(busy, 0xC001))
 }
 
-fn housekeeping() {
+fn housekeeping(rt: &impl Print) -> io::Result<()> {
     let asked = Head::power_on().word(0x4000).head;
     let last = asked.tick().head.tick().head.tick();
     let given = Given {
@@ -57,12 +45,12 @@ fn housekeeping() {
     let mut ir = [0u16; 20];
     let mut ccd = [0u16; 25];
     write_due(last, given, &mut ir, &mut ccd);
-    print_word(b"lamp and shutter ", ir[18]);
-    print_word(b"IR flags ", ir[19]);
-    print_word(b"VIS flags ", ccd[24]);
+    print_word(rt, "lamp and shutter", ir[18])?;
+    print_word(rt, "IR flags", ir[19])?;
+    print_word(rt, "VIS flags", ccd[24])
 }
 
-fn main() {
-    words();
-    housekeeping();
+fn main(rt: HostRuntime) -> io::Result<()> {
+    words(&rt)?;
+    housekeeping(&rt)
 }
