@@ -1,7 +1,4 @@
 -- `picture::raster::eight_from` meets its contract.
-use Prim.Native.Nat.{◌-◌, ◌≤◌}
-use mathlib.Core.Path.{◌≡◌}
-use Rattle.picture.specs.Raster.{bits_from}
 use borrow.Author.Rules.{rules}
 use Rattle.picture.proofs.Bytes.{bits_none, bits-next, twice-fits, next_fits, bits-done}
 use Rattle.picture.proofs.raster.eight_from.Goals as goal

@@ -2,8 +2,6 @@
 use Prim.Native.Nat.{◌-◌, ◌≤◌}
 use mathlib.Core.Path.{◌≡◌}
 use Rattle.picture.specs.Raster.{bits_from}
-use borrow.Author.Rules.{rules}
-use Rattle.picture.proofs.Bytes.{bits_none, bits-next, twice-fits, next_fits, bits-done}
 use Rattle.picture.proofs.raster.eight_from.Given as goal
 
 abbrev pub invariant-loop-j : goal.invariant-loop-j

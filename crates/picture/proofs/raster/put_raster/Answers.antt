@@ -1,9 +1,6 @@
 -- `picture::raster::put_raster` meets its contract.
-use Prim.Native.Nat.{◌-◌}
-use Rattle.layout.proofs.Below.{TextsWritten, texts-first, texts-next}
+use Rattle.layout.proofs.Below.{texts-first, texts-next}
 use Rattle.layout.proofs.Writing.{written-long}
-use Rattle.pixels.specs.Map.{rows}
-use Rattle.picture.specs.Raster.{row_text}
 use Rattle.picture.proofs.Rows.{raster-done}
 use borrow.Author.Rules.{rules}
 use Rattle.picture.proofs.raster.put_raster.Goals as goal

@@ -1,11 +1,8 @@
 -- `picture::raster::put_raster` meets its contract.
 use Prim.Native.Nat.{◌-◌}
-use Rattle.layout.proofs.Below.{TextsWritten, texts-first, texts-next}
-use Rattle.layout.proofs.Writing.{written-long}
+use Rattle.layout.proofs.Below.{TextsWritten}
 use Rattle.pixels.specs.Map.{rows}
 use Rattle.picture.specs.Raster.{row_text}
-use Rattle.picture.proofs.Rows.{raster-done}
-use borrow.Author.Rules.{rules}
 use Rattle.picture.proofs.raster.put_raster.Given as goal
 
 abbrev pub invariant-loop-row : goal.invariant-loop-row

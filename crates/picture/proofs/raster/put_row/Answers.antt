@@ -1,8 +1,6 @@
 -- `picture::raster::put_row` meets its contract.
-use Prim.Native.Nat.{◌-◌}
-use Rattle.layout.proofs.Below.{TextsWritten, texts-first, texts-next}
+use Rattle.layout.proofs.Below.{texts-first, texts-next}
 use Rattle.layout.proofs.Writing.{written-long}
-use Rattle.picture.specs.Raster.{byte_text, row_bytes}
 use Rattle.picture.proofs.Rows.{byte-written, row_done}
 use borrow.Author.Rules.{rules}
 use Rattle.picture.proofs.raster.put_row.Goals as goal
