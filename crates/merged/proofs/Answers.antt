@@ -49,7 +49,7 @@ module _ (x y : List ℕ) {n m : ℕ} (first : import_of x ≡ import.Done n) (s
       }
 
 -- the number of an answer is that of the texts
-texts-number : (x y : List ℕ) {r : MergedTexts} → r ≡ merged_texts_of x y → merged_texts_number r ≡ merge_texts_number x y
+pub texts-number : (x y : List ℕ) {r : MergedTexts} → r ≡ merged_texts_of x y → merged_texts_number r ≡ merge_texts_number x y
 unfolding merged_texts_of merged_by merged_texts_number merge_texts_number
 texts-number x y e = rw e (go (eqb (import_number (import_of x)) 0) (eqb (import_number (import_of y)) 0) (share_tick (entries_in x) (entries_in y)))
   where
@@ -63,15 +63,6 @@ texts-number x y e = rw e (go (eqb (import_number (import_of x)) 0) (eqb (import
     go true false c = refl
     go true true true = refl
     go true true false = refl
-
--- the promises of `merge_texts`
-abbrev pub Promised : List ℕ → List ℕ → MergedTexts → List ℕ → List ℕ → Type 0
-Promised x y r old new =
-    (r ≡ merged_texts_of x y) × ((merged_texts_number r ≡ merge_texts_number x y) × (new ≡ text_after r (merged_text x y) old))
-
-pub promised : (x y : List ℕ) {r : MergedTexts} (old : List ℕ) {new : List ℕ} → r ≡ merged_texts_of x y → new ≡ text_after r (merged_text x y) old
-    → Promised x y r old new
-promised x y old is after = (is, (texts-number x y is, after))
 
 -- a text that is no list
 pub unread-kept : (g n l : ℕ) {r : MergedTexts} → r ≡ Unread g n l → (text old : List ℕ) → old ≡ text_after r text old

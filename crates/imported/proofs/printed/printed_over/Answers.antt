@@ -4,7 +4,12 @@ use borrow.Author.Rules.{rules}
 use Rattle.imported.proofs.printed.printed_over.Goals as goal
 
 pub inspected_first-requires : goal.inspected_first-requires
-inspected_first-requires c = (search (rules, count_room), (search (rules, count_room), search (rules, read-list)))
+inspected_first-requires c =
+    record {
+      fact_1 = search (rules, count_room);
+      fact_2 = search (rules, count_room);
+      fact_3 = search (rules, read-list);
+    }
 
 pub returns-in-Done : goal.returns-in-Done
 returns-in-Done c = search (rules, printed-done)

@@ -4,4 +4,9 @@ use borrow.Author.Rules.{rules}
 use Rattle.imported.proofs.printed.read_whole.Goals as goal
 
 pub returns : goal.returns
-returns c = (search (rules, whole-answer), (search (rules, whole_words), search (rules, whole-ticks)))
+returns c =
+    record {
+      value = search (rules, whole-answer);
+      words_after = search (rules, whole_words);
+      ticks_after = search (rules, whole-ticks);
+    }

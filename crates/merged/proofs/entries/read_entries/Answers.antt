@@ -4,4 +4,4 @@ use borrow.Author.Rules.{rules}
 use Rattle.merged.proofs.entries.read_entries.Goals as goal
 
 pub returns : goal.returns
-returns c = (search (rules, read_answer), search (rules, read-entries))
+returns c = record { value = search (rules, read_answer); list_after = search (rules, read-entries) }
