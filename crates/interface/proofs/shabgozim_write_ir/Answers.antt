@@ -1,4 +1,6 @@
 -- `interface::shabgozim_write_ir` meets its contract.
+use mathlib.Core.Path.{ap}
+use mathlib.Core.Bool.{not}
 use Rattle.blocks.specs.Ir.{ir_block_of}
 use Rattle.interface.specs.Blocks.{ir_block_for}
 use Rattle.interface.proofs.Ways.{long}
@@ -16,7 +18,7 @@ pub returns-then-not-well_formed : goal.returns-then-not-well_formed
 returns-then-not-well_formed c = search (rules, ill-number, ill-left)
 
 pub load-head-requires : goal.load-head-requires
-load-head-requires c = long _ _ c.before.well_formed-2.ensures c.if-not-well_formed.false
+load-head-requires c = long _ _ c.before.well_formed-2.ensures (ap not c.if-not-well_formed.false)
 
 pub returns : goal.returns
 unfolding ir_block_for
