@@ -19,7 +19,6 @@ use Rattle.words.proofs.UpperByte.{kind-by-byte}
 use Rattle.words.proofs.Tests.{and_left, and_right, or_left, or_right}
 use Rattle.layout.specs.Below.{texts_below}
 use Rattle.layout.specs.Numbers.{bit, ascii, hex_of}
-use Rattle.layout.specs.Template.{layout}
 use Rattle.layout.proofs.Alternatives.{most_from, most_of, layout-most}
 use Rattle.names.specs.Kind.{kind_template, kind_name}
 use Rattle.names.specs.Table.{word_at, is_allowed, is_first, bound_text, any_below, ranges_text, gap_text, byte_text, name_text, row_text, table_text}

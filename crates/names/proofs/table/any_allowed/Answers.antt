@@ -1,6 +1,5 @@
 -- `names::table::any_allowed` meets its contract. The loop's invariant: whether any word below the next one is allowed.
-use Prim.Native.Nat.{◌-◌}
-use Rattle.names.proofs.Ranges.{AnyFound, any-first, any_next, any-done}
+use Rattle.names.proofs.Ranges.{any-first, any_next, any-done}
 use borrow.Author.Rules.{rules}
 use Rattle.names.proofs.table.any_allowed.Goals as goal
 

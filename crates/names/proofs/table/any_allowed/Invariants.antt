@@ -1,7 +1,6 @@
 -- `names::table::any_allowed` meets its contract. The loop's invariant: whether any word below the next one is allowed.
 use Prim.Native.Nat.{◌-◌}
-use Rattle.names.proofs.Ranges.{AnyFound, any-first, any_next, any-done}
-use borrow.Author.Rules.{rules}
+use Rattle.names.proofs.Ranges.{AnyFound}
 use Rattle.names.proofs.table.any_allowed.Given as goal
 
 abbrev pub invariant-loop-low : goal.invariant-loop-low

@@ -1,8 +1,6 @@
 -- `names::table::put_bounds` meets its contract. The loop's invariant: the bounds below the next word are written.
-use Prim.Native.Nat.{◌-◌}
-use Rattle.layout.proofs.Below.{TextsWritten, texts-first, texts-next, texts-done}
+use Rattle.layout.proofs.Below.{texts-first, texts-next, texts-done}
 use Rattle.layout.proofs.Writing.{written-long}
-use Rattle.names.specs.Table.{bound_text}
 use borrow.Author.Rules.{rules}
 use Rattle.names.proofs.table.put_bounds.Goals as goal
 

@@ -1,9 +1,7 @@
 -- `names::table::put_bounds` meets its contract. The loop's invariant: the bounds below the next word are written.
 use Prim.Native.Nat.{◌-◌}
-use Rattle.layout.proofs.Below.{TextsWritten, texts-first, texts-next, texts-done}
-use Rattle.layout.proofs.Writing.{written-long}
+use Rattle.layout.proofs.Below.{TextsWritten}
 use Rattle.names.specs.Table.{bound_text}
-use borrow.Author.Rules.{rules}
 use Rattle.names.proofs.table.put_bounds.Given as goal
 
 abbrev pub invariant-loop-low : goal.invariant-loop-low

@@ -1,8 +1,6 @@
 -- `names::table::put_rows` meets its contract. The loop's invariant: the lines of the bytes below the next one are written.
-use Prim.Native.Nat.{◌-◌}
-use Rattle.layout.proofs.Below.{TextsWritten, texts-first, texts-next, texts-done}
+use Rattle.layout.proofs.Below.{texts-first, texts-next, texts-done}
 use Rattle.layout.proofs.Writing.{written-long}
-use Rattle.names.specs.Table.{row_text}
 use borrow.Author.Rules.{rules}
 use Rattle.names.proofs.table.put_rows.Goals as goal
 

@@ -1,9 +1,7 @@
 -- `names::table::put_rows` meets its contract. The loop's invariant: the lines of the bytes below the next one are written.
 use Prim.Native.Nat.{◌-◌}
-use Rattle.layout.proofs.Below.{TextsWritten, texts-first, texts-next, texts-done}
-use Rattle.layout.proofs.Writing.{written-long}
+use Rattle.layout.proofs.Below.{TextsWritten}
 use Rattle.names.specs.Table.{row_text}
-use borrow.Author.Rules.{rules}
 use Rattle.names.proofs.table.put_rows.Given as goal
 
 abbrev pub invariant-loop-byte : goal.invariant-loop-byte
