@@ -5,6 +5,7 @@ use mathlib.Core.Bool.{Bool, true, false, cond}
 use mathlib.Core.List.{List, [], ◌∷◌, ◌++◌, map}
 use Prim.Native.Nat.{ℕ, ◌+◌, ◌%◌, ◌<◌}
 use native.Mathlib.Omega.{arith}
+use Rattle.head.specs.Tick.{ticks_of}
 use Rattle.head.specs.declared.state.Head.{Head}
 use Rattle.orders.specs.Codes.{is}
 use Rattle.orders.specs.Codes as code
@@ -13,7 +14,8 @@ use Rattle.orders.specs.Words.{Item, send, pause, words_of, items_of, items_of_a
 use Rattle.orders.specs.declared.order.Order.{Order}
 use Rattle.orders.proofs.OrderWords.{fit_cut}
 use Rattle.plan.proofs.Accepted.{AllFit}
-use Rattle.schedule.specs.Schedule.{schedule_from}
+use Rattle.schedule.specs.Earliest.{delay_of}
+use Rattle.schedule.specs.Schedule.{readied, span_of, sent, schedule_from}
 use Rattle.schedule.specs.Translate.{word_list}
 use Rattle.import.specs.Line.{word_limit}
 
@@ -62,8 +64,8 @@ orders-given (o ∷ os) p =
 schedule-words : (s : Head) (t : ℕ) (is : List Item) → Given is → Sixteen (word_list (schedule_from s t is))
 unfolding schedule_from
 schedule-words s t [] p = tt
-schedule-words s t (send w ∷ is) p = (p.0, schedule-words _ _ is p.1)
-schedule-words s t (pause n ∷ is) p = schedule-words _ _ is p
+schedule-words s t (send w ∷ is) p = (p.0, schedule-words (sent s w) (t + delay_of s w + span_of (readied s w) w) is p.1)
+schedule-words s t (pause n ∷ is) p = schedule-words (ticks_of n s) (t + n) is p
 
 pub plan-words : (s : Head) (os : List Order) → AllFit os → Sixteen (word_list (schedule_from s 0 (items_of_all os)))
 plan-words s os all = schedule-words s 0 (items_of_all os) (orders-given os all)

@@ -12,6 +12,9 @@ overflow_add-at c = let within = at_first _ c.line_end-at.ensures in omega arith
 pub loop-i-init : goal.loop-i-init
 loop-i-init c = search (rules, filling-first)
 
+pub slice_bounds-line_of-end : goal.slice_bounds-line_of-end
+slice_bounds-line_of-end c = let more = more-text c.loop-i.invariant c.loop-i-test.true in let short = ends-within _ more c.line_end-end.ensures in omega arith
+
 pub put_line-requires : goal.put_line-requires
 put_line-requires c = search (rules, word-free, tick-free)
 
@@ -25,4 +28,4 @@ pub loop-i-preserved : goal.loop-i-preserved
 loop-i-preserved c = search (rules, filling-next)
 
 pub returns : goal.returns
-returns c = (search (rules, filled-words), search (rules, filled-ticks))
+returns c = record { words_after = search (rules, filled-words); ticks_after = search (rules, filled-ticks) }

@@ -10,6 +10,9 @@ use Rattle.import.proofs.read.judge.Goals as goal
 pub loop-at-init : goal.loop-at-init
 loop-at-init c = search (rules, judging-first)
 
+pub slice_bounds-judged-end : goal.slice_bounds-judged-end
+slice_bounds-judged-end c = let short = ends-within _ (search rules) c.line_end-end.ensures in omega arith
+
 pub overflow_add-at : goal.overflow_add-at
 overflow_add-at c = let short = ends-within _ (search rules) c.line_end-end.ensures in omega arith
 

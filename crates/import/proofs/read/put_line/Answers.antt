@@ -3,4 +3,4 @@ use borrow.Author.Rules.{rules}
 use Rattle.import.proofs.read.put_line.Goals as goal
 
 pub returns : goal.returns
-returns c = (rw c.word_of.ensures, rw c.tick_of.ensures)
+returns c = record { words_after = rw c.word_of.ensures; ticks_after = rw c.tick_of.ensures }
