@@ -13,26 +13,23 @@ loop-i-init c = (omega arith, refl)
 
 pub returns-then-a-i : goal.returns-then-a-i
 returns-then-a-i c =
-    let start = c.before.before.before.before.before in
-    let a = start.args in
+    let a = c.args in
     let at = c.loop-i in
     let more : at.i < a.count = omega arith in
-    same-differ a.count a.a.now a.b.now at.i start.requires.0 start.requires.1 at.invariant.1 more c.if-a-i.true
+    same-differ a.count a.a.now a.b.now at.i c.requires.fact_1 c.requires.fact_2 at.invariant.1 more c.if-a-i.true
 
 pub loop-i-preserved : goal.loop-i-preserved
 loop-i-preserved c =
-    let start = c.before.before.before.before.before in
-    let a = start.args in
+    let a = c.args in
     let at = c.loop-i in
     let more : at.i < a.count = omega arith in (
       omega arith,
-      same_next a.count a.a.now a.b.now at.i start.requires.0 start.requires.1 at.invariant.1 more c.if-a-i.false,
+      same_next a.count a.a.now a.b.now at.i c.requires.fact_1 c.requires.fact_2 at.invariant.1 more c.if-a-i.false,
     )
 
 pub returns : goal.returns
 returns c =
-    let start = c.before.before in
-    let a = start.args in
+    let a = c.args in
     let at = c.loop-i in
     let all : a.count ≤ at.i = omega arith in
-    same-last a.count a.a.now a.b.now at.i start.requires.0 start.requires.1 at.invariant.1 all
+    same-last a.count a.a.now a.b.now at.i c.requires.fact_1 c.requires.fact_2 at.invariant.1 all

@@ -10,7 +10,7 @@ use Rattle.run.proofs.rehearse.run_words.Goals as goal
 pub loop-i-init : goal.loop-i-init
 loop-i-init c =
     let p = c.requires in
-    running-first p.0 p.1.0 p.1.1.0 p.1.1.1
+    running-first p.count_in_bounds_1 p.count_in_bounds_2 p.rising p.words_in_bounds
 
 pub overflow_sub-tick : goal.overflow_sub-tick
 overflow_sub-tick c =
@@ -42,7 +42,7 @@ loop-i-preserved c =
     let at = c.loop-i in
     let more : at.i < a.count = omega arith in
     let e = c.give-given.ensures in
-    running-next at.invariant more c.pass-found.ensures e.0 e.1
+    running-next at.invariant more c.pass-found.ensures e.head_value (e.acts_value, (e.rows_after, e.times_after))
 
 pub overflow_sub-end : goal.overflow_sub-end
 overflow_sub-end c =
@@ -51,7 +51,7 @@ overflow_sub-end c =
     omega (arith, running-ends at.invariant)
 
 pub shape_of-rows : goal.shape_of-rows
-shape_of-rows c = c.lay.auto.0 ∙ c.loop-i.invariant.long_rows
+shape_of-rows c = c.lay.auto.rows ∙ c.loop-i.invariant.long_rows
 
 pub shape_of-times : goal.shape_of-times
 shape_of-times c = c.loop-i.invariant.long_times
@@ -63,7 +63,10 @@ returns c =
     let at = c.loop-i in
     let all : a.count ≤ at.i = omega arith in
     let last = c.pass-last.ensures in
-    let laid = rw c.settings_row.ensures at c.lay.ensures in (
-      running-last at.invariant all last,
-      (running-acts at.invariant all, (running-rows at.invariant all last laid, running-times at.invariant all)),
-    )
+    let laid = rw c.settings_row.ensures at c.lay.ensures in
+    record {
+      head_value = running-last at.invariant all last;
+      acts_value = running-acts at.invariant all;
+      rows_after = running-rows at.invariant all last laid;
+      times_after = running-times at.invariant all;
+    }
