@@ -1,7 +1,7 @@
 -- The groups of the kinds (document 02, request P6).
 -- Assumes nothing.
-use mathlib.Core.Path.{◌≡◌, refl, sym}
-use mathlib.Core.Bool.{Bool, true, false, cond}
+use mathlib.Core.Path.{◌≡◌, sym}
+use mathlib.Core.Bool.{cond}
 use mathlib.Core.List.{List, [], ◌∷◌}
 use Prim.Native.Nat.{ℕ, ◌<◌, ◌≤◌}
 use lib.Dec.{T, eqb}
@@ -9,7 +9,7 @@ use lib.ListN.{get_or}
 use Rattle.words.specs.Kinds.{ccd, infrared, controller, no_group, rows, group_of, kinds}
 use Rattle.words.specs.Kinds as kind
 use Rattle.words.proofs.Allowed.{no_row}
-use Rattle.words.proofs.Tables.{tabulates, tabulates-at, agree, agree_at}
+use Rattle.words.proofs.Tables.{tabulates, tabulates-at, agree_at}
 
 -- the kinds that the request names for each group
 pub ccd_kinds : List ℕ

@@ -1,8 +1,4 @@
 -- `timed::rise` meets its contract. The loop's invariant: the list rises if it does from i on.
-use mathlib.Core.Path.{◌≡◌}
-use Prim.Native.Nat.{◌-◌, ◌≤◌}
-use lib.ListN.{length, drop}
-use Rattle.timed.specs.List.{rising}
 use Rattle.timed.proofs.Rising.{rise-more, rise-not, rise-less, rise-all}
 use borrow.Author.Rules.{rules}
 use Rattle.timed.proofs.rise.Goals as goal

@@ -3,8 +3,6 @@ use mathlib.Core.Path.{◌≡◌}
 use Prim.Native.Nat.{◌-◌, ◌≤◌}
 use lib.ListN.{length, drop}
 use Rattle.timed.specs.List.{rising}
-use Rattle.timed.proofs.Rising.{rise-more, rise-not, rise-less, rise-all}
-use borrow.Author.Rules.{rules}
 use Rattle.timed.proofs.rise.Given as goal
 
 abbrev pub invariant-loop-i : goal.invariant-loop-i
