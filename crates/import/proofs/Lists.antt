@@ -22,22 +22,22 @@ listed-long f (last is h) = refl
 listed-long f (word is h r) = ap suc (listed-long f r)
 
 -- the ticks of lines of which the first is a word's
-word-ticks : {n t w : ℕ} (l : List ℕ) (ls : List (List ℕ)) → line_of l ≡ Word t w
+word-ticks : (n : ℕ) {t w : ℕ} (l : List ℕ) (ls : List (List ℕ)) → line_of l ≡ Word t w
     → map tick_of (map line_of (take (suc n) (l ∷ ls))) ≡ t ∷ map tick_of (map line_of (take n ls))
-word-ticks {n = n} l ls is = ap (λ (k : Line). tick_of k ∷ map tick_of (map line_of (take n ls))) is
+word-ticks n l ls is = ap (λ (k : Line). tick_of k ∷ map tick_of (map line_of (take n ls))) is
 
 rises-after : (t : ℕ) {n least : ℕ} {ls : List (List ℕ)} → Listed n least ls → least ≡ t + 1 → rising (t ∷ map tick_of (map line_of (take n ls))) ≡ true
 unfolding rising
 rises-after t none e = refl
 rises-after t (last is h) e = refl
 rises-after t (word {l = l} {ls = ls} {t = u} is h r) e =
-    ap (λ (x : List ℕ). rising (t ∷ x)) (word-ticks l ls is) ∙ rw (lt-ltb t u (omega arith)) (rises-after u r refl)
+    ap (λ (x : List ℕ). rising (t ∷ x)) (word-ticks _ l ls is) ∙ rw (lt-ltb t u (omega arith)) (rises-after u r refl)
 
 rises : {n least : ℕ} {ls : List (List ℕ)} → Listed n least ls → rising (map tick_of (map line_of (take n ls))) ≡ true
 unfolding rising
 rises none = refl
 rises (last is h) = refl
-rises (word {l = l} {ls = ls} {t = t} is h r) = ap rising (word-ticks l ls is) ∙ rises-after t r refl
+rises (word {l = l} {ls = ls} {t = t} is h r) = ap rising (word-ticks _ l ls is) ∙ rises-after t r refl
 
 module _ (text : List ℕ) {n : ℕ} (e : import_of text ≡ Done n) where
   numbers : (f : Line → ℕ) → map f (word_lines_in (import_count (import_of text)) text) ≡ map f (map line_of (take n (accepted text e).rest))

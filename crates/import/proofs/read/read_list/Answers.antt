@@ -7,10 +7,10 @@ pub returns-then-not-fits : goal.returns-then-not-fits
 returns-then-not-fits c = record { value = search (rules, short-answer); words_after = search (rules, short-kept); ticks_after = search (rules, short-kept) }
 
 pub fill-requires : goal.fill-requires
-fill-requires c = record { value = search (rules, room-of-words), search (rules, room-of-ticks))
+fill-requires c = record { fact_1 = search (rules, room-of-words); fact_2 = search (rules, room-of-ticks) }
 
 pub returns-else-not-fits : goal.returns-else-not-fits
-returns-else-not-fits c = (search (rules, done-answer); words_after = search (rules, read-words); ticks_after = search (rules, read-ticks) }
+returns-else-not-fits c = record { value = search (rules, done-answer); words_after = search (rules, read-words); ticks_after = search (rules, read-ticks) }
 
 pub returns-in-Refused : goal.returns-in-Refused
 returns-in-Refused c = record { value = search (rules, refused-answer); words_after = search (rules, refused-kept); ticks_after = search (rules, refused-kept) }
