@@ -6,8 +6,8 @@ use mathlib.Core.List.{List, [], ◌∷◌}
 use Prim.Native.Nat.{ℕ, zero, suc, ◌+◌, ◌-◌, ◌<◌, ◌≤◌}
 use native.Mathlib.Numerals.{add-one}
 use native.Mathlib.Omega.{arith}
-use borrow.Author.Tests.{leb-true, leb-false, le-leb, lt-leb, eqb-true, eqb-false, eq-eqb, ne_eqb}
-use lib.Bits.{bit_or, bit_and, or_zero_l, or_add_and, and_le_r}
+use borrow.Author.Tests.{leb-true, leb-false, le-leb, lt-leb, eqb-true, eq-eqb, ne_eqb}
+use lib.Bits.{bit_or, or_zero_l, or_add_and, and_le_r}
 use lib.Dec.{leb, eqb, eqb-suc-zero}
 use lib.ListN.{length, get_or, drop, drop_of_length-le}
 use lib.Seq.{drop-cons}
@@ -15,7 +15,7 @@ use Rattle.words.specs.Kinds as kind
 use Rattle.words.specs.Kinds.{rows, least, greatest}
 use Rattle.words.proofs.Tests.{and_left, and_right}
 use Rattle.head.specs.Limits.{hk_ticks, longest}
-use Rattle.head.specs.State.{no_task, acquisition, housekeeping}
+use Rattle.head.specs.State.{housekeeping}
 use Rattle.head.specs.Range.{in_range}
 use Rattle.head.specs.Row.{numbers_of}
 use Rattle.head.specs.ByRow.{most, at_most, received, lasting}

@@ -1,7 +1,6 @@
 -- `head::list::gap_after` meets its contract.
 use Rattle.head.proofs.Gaps.{gap-none, gap-next, gap-last}
 use borrow.Author.Rules.{rules}
-use Rattle.head.proofs.list.ticks_between.Reads as ticks-between-reads
 use Rattle.head.proofs.list.gap_after.Goals as goal
 
 pub returns-then-ticks-at : goal.returns-then-ticks-at

@@ -1,7 +1,6 @@
 -- `head::range::is_received` meets its contract: each place by its own limit.
 use Rattle.words.specs.Kinds.{rows, greatest}
 use Rattle.head.specs.ByRow.{received}
-use borrow.Author.Rules.{rules}
 use Rattle.head.proofs.range.is_received.Goals as goal
 
 pub returns : goal.returns

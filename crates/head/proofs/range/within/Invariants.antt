@@ -1,11 +1,6 @@
 -- `head::range::within` meets its contract, number by number.
-use mathlib.Core.Path.{refl}
 use Prim.Native.Nat.{◌-◌}
-use native.Mathlib.Omega.{arith}
-use Rattle.words.specs.Kinds.{rows, greatest}
-use Rattle.head.specs.ByRow.{most}
-use Rattle.head.proofs.RowRange.{Within, within_more, within_all}
-use borrow.Author.Rules.{rules}
+use Rattle.head.proofs.RowRange.{Within}
 use Rattle.head.proofs.range.within.Given as goal
 
 abbrev pub invariant-loop-i : goal.invariant-loop-i

@@ -1,7 +1,5 @@
 -- `head::state::Head::given` meets its contract. The loop's invariant: i words have been given.
-use Prim.Native.Nat.{◌-◌}
-use lib.ListN.{length}
-use Rattle.head.proofs.Giving.{Giving, giving-first, giving-next, giving-head, giving-written}
+use Rattle.head.proofs.Giving.{giving-first, giving-next, giving-head, giving-written}
 use borrow.Author.Rules.{rules}
 use Rattle.head.proofs.state.Head.given.Goals as goal
 

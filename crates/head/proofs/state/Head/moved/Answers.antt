@@ -2,7 +2,6 @@
 use mathlib.Core.Path.{◌≡◌}
 use native.Mathlib.Omega.{arith}
 use Rattle.words.specs.Kinds as kind
-use borrow.Author.Rules.{rules}
 use Rattle.head.proofs.state.Head.moved.Goals as goal
 
 pub returns-then-kind-eq-SWITCH : goal.returns-then-kind-eq-SWITCH

@@ -1,7 +1,6 @@
 -- `head::state::Head::numbers` meets its contract: the fields in their order.
 use mathlib.Core.Path.{refl}
 use Rattle.head.specs.Row.{numbers_of}
-use borrow.Author.Rules.{rules}
 use Rattle.head.proofs.state.Head.numbers.Goals as goal
 
 pub returns : goal.returns

@@ -2,7 +2,6 @@
 use mathlib.Core.Path.{sym, ◌∙◌}
 use Rattle.head.proofs.Ticks.{ticks-elapsed}
 use Rattle.head.proofs.Passing.{ticks-out}
-use borrow.Author.Rules.{rules}
 use Rattle.head.proofs.state.Head.pass.Goals as goal
 
 pub returns-then-in_range : goal.returns-then-in_range

@@ -1,6 +1,5 @@
 -- `head::state::Head::rest_ticks` meets its contract.
 use Rattle.head.specs.Busy.{busy_ticks, rest_ticks}
-use borrow.Author.Rules.{rules}
 use Rattle.head.proofs.state.Head.rest_ticks.Goals as goal
 
 pub returns : goal.returns

@@ -1,5 +1,4 @@
 -- `head::state::Motion::lessened` meets its contract.
-use borrow.Author.Rules.{rules}
 use Rattle.head.proofs.state.Motion.lessened.Goals as goal
 
 pub returns : goal.returns

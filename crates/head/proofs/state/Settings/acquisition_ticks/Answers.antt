@@ -1,5 +1,4 @@
 -- `head::state::Settings::acquisition_ticks` meets its contract.
-use borrow.Author.Rules.{rules}
 use Rattle.head.specs.Limits.{length_of}
 use Rattle.head.proofs.state.Settings.acquisition_ticks.Goals as goal
 
