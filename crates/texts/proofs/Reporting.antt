@@ -91,16 +91,17 @@ module _ (s : Head) (bs m : List ℕ) {r : Reported} (is : r ≡ reported_of s b
       none = rw (← loaded) (well-number l long (rested s) bs ∙ made-is.none)
 
       -- what was handed over: the answer, the text and the state
-      pub reported : {x : ℕ} {new left : List ℕ}
-          → (x ≡ room_answer (take n made) old)
-          × ((new ≡ text_after (has_room (take n made) old) (take n made) old) × (left ≡ cond (has_room (take n made) old) (numbers_of h) l))
-          → (x ≡ report_answer l bs old) × ((new ≡ report_left l bs old) × (left ≡ report_state l bs old))
-      unfolding report_answer report_left report_state
-      reported e =
-          rw (← loaded, ← made-is.last) (
-            front-answer made-is.front none old (place_for l (rested s) bs) e.0,
-            (front-after made-is.front none old e.1.0, front-state made-is.front none old (numbers_of h) l e.1.1),
-          )
+      pub reported-answer : {x : ℕ} → x ≡ room_answer (take n made) old → x ≡ report_answer l bs old
+      unfolding report_answer
+      reported-answer e = rw (← loaded) (front-answer made-is.front none old (place_for l (rested s) bs) e)
+
+      pub reported-left : {new : List ℕ} → new ≡ text_after (has_room (take n made) old) (take n made) old → new ≡ report_left l bs old
+      unfolding report_left
+      reported-left e = rw (← loaded) (front-after made-is.front none old e)
+
+      pub reported-state : {left : List ℕ} → left ≡ cond (has_room (take n made) old) (numbers_of h) l → left ≡ report_state l bs old
+      unfolding report_state
+      reported-state e = rw (← loaded, ← made-is.last) (front-state made-is.front none old (numbers_of h) l e)
 
   module _ {n p : ℕ} (refusal : r ≡ Reported.Refused n p) where
     module _ (number : reported_number r ≡ translation_number (rested s) bs most_words most_words) (l : List ℕ) (long : length l ≡ places) (loaded : s ≡ state_of l) (old : List ℕ) where

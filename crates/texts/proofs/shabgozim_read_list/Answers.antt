@@ -7,4 +7,9 @@ pub read_number-requires : goal.read_number-requires
 read_number-requires c = search (rules, read_small)
 
 pub returns : goal.returns
-returns c = (search (rules, read_answer_lem), (search (rules, words_left_lem), search (rules, ticks-left)))
+returns c =
+    record {
+      value = search (rules, read_answer_lem);
+      words_after = search (rules, words_left_lem);
+      ticks_after = search (rules, ticks-left);
+    }

@@ -10,7 +10,7 @@ pub slice_bounds-hand_over_counted-end-in-Done : goal.slice_bounds-hand_over_cou
 slice_bounds-hand_over_counted-end-in-Done c = search (rules, inspected-count)
 
 pub hand_over_counted-requires : goal.hand_over_counted-requires
-hand_over_counted-requires c = (search (rules, inspected-small), search (rules, findings-small))
+hand_over_counted-requires c = record { fact_1 = search (rules, inspected-small); fact_2 = search (rules, findings-small) }
 
 pub returns-in-Done : goal.returns-in-Done
 returns-in-Done c = search (rules, inspected-answer, inspected-left)
