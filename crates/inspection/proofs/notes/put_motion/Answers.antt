@@ -2,9 +2,17 @@
 use Rattle.inspection.proofs.Noting.{written-motion}
 use Rattle.inspection.specs.Notes.{mirror_template, cover_moves_template}
 use Rattle.layout.specs.Numbers.{ascii}
-use borrow.Author.Rules.{rules}
 use Rattle.inspection.proofs.notes.put_motion.Goals as goal
 
 pub returns : goal.returns
 unfolding mirror_template cover_moves_template ascii
-returns c = search (rules, written-motion)
+returns c =
+    written-motion
+    _
+    _
+    _
+    c.is_exposure-exposes.ensures
+    c.bit-mirror_moves.ensures
+    c.put_template-after_mirror.ensures
+    c.bit-cover_moves.ensures
+    c.put_template.ensures
