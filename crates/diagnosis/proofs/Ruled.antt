@@ -1,7 +1,7 @@
 -- A diagnosis names the rule that the head applied, and has its number.
 -- Assumes nothing.
-use mathlib.Core.Path.{◌≡◌, refl, sym, ◌∙◌}
-use mathlib.Core.Bool.{Bool, true, false, cond, ◌&&◌}
+use mathlib.Core.Path.{◌≡◌, refl}
+use mathlib.Core.Bool.{Bool, true, false, ◌&&◌}
 use Prim.Native.Nat.{ℕ, ◌+◌, ◌<◌}
 use native.Mathlib.Omega.{arith}
 use borrow.Author.Tests.{lt-leb}
@@ -9,15 +9,13 @@ use lib.Dec.{leb}
 use Rattle.head.specs.Word.{answer_of}
 use Rattle.head.specs.Numbers.{act_number, cause_number, is_cause, outcome_number, answer_number}
 use Rattle.head.specs.declared.state.Head.{Head}
-use Rattle.head.specs.declared.word.Act.{Act}
 use Rattle.head.specs.declared.word.Act.TheVariants as act
-use Rattle.head.specs.declared.word.Cause.{Cause}
 use Rattle.head.specs.declared.word.Cause.TheVariants.{State, Busy, CoverMoving, UnknownWord, Range, Turn}
 use Rattle.head.specs.declared.word.Outcome.{Outcome}
 use Rattle.head.specs.declared.word.Outcome.TheVariants as outcome
 use Rattle.head.proofs.Numbered.{word_number}
 use Rattle.diagnosis.specs.Diagnosis.{by_cause, by_outcome, diagnosis_of, diagnosis_number, stopped_number}
-use Rattle.diagnosis.specs.Truth.{Ruling, named, applied}
+use Rattle.diagnosis.specs.Truth.{named, applied}
 
 module _ (s : Head) (w : ℕ) where
   -- taken exactly where the head takes it, else the cause in the head's answer

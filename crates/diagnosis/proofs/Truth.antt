@@ -1,11 +1,11 @@
 -- What a diagnosis says is true of the state and the word.
 -- Assumes nothing.
-use mathlib.Core.Path.{◌≡◌, refl, sym, ap, ◌∙◌}
-use mathlib.Core.Bool.{Bool, true, false, cond, not, ◌&&◌, ◌||◌, false≢true, true≢false}
+use mathlib.Core.Path.{◌≡◌, refl, ◌∙◌}
+use mathlib.Core.Bool.{Bool, true, false, not, ◌&&◌, false≢true, true≢false}
 use Prim.Native.Nat.{ℕ, zero, suc, ◌-◌, ◌<◌, ◌≤◌}
 use native.Mathlib.Decide.{ℕ_discrete}
 use native.Mathlib.Omega.{arith}
-use borrow.Author.Tests.{lt-ltb, le-ltb, ltb-true, eqb-true, eq-eqb, ne_eqb}
+use borrow.Author.Tests.{lt-ltb, le-ltb, ltb-true, eqb-true, ne_eqb}
 use lib.Dec.{eqb, ltb}
 use Rattle.words.specs.Kinds as kind
 use Rattle.words.specs.Kinds.{identifier, bits_of, rows, least, greatest, kind_of, kinds, allowed}
@@ -16,7 +16,7 @@ use Rattle.words.proofs.Codec.{decode-read, encode-decode}
 use Rattle.head.specs.Range.{in_range}
 use Rattle.head.specs.Busy.{busy_ticks, is_busy}
 use Rattle.head.specs.Flags.{one_of, mirror_word}
-use Rattle.head.specs.Apply.{after, act_of}
+use Rattle.head.specs.Apply.{act_of}
 use Rattle.head.specs.Word.{out_of_turn, on_word, on_decoded, stop_word, answer_of}
 use Rattle.head.specs.Tick.{ticks_of}
 use Rattle.head.specs.Ticks.{elapsed}
@@ -27,12 +27,11 @@ use Rattle.head.specs.declared.word.Outcome.{Outcome}
 use Rattle.head.specs.declared.word.Outcome.TheVariants as outcome
 use Rattle.head.proofs.Bounds.{bounds}
 use Rattle.head.proofs.Keep.{ticks-keep}
-use Rattle.head.proofs.Ticks.{ticks-elapsed, ticks-begun}
+use Rattle.head.proofs.Ticks.{ticks-elapsed}
 use Rattle.head.proofs.BusyTicks.{idle-none, none-idle, idle-answer, busy-falls}
 use Rattle.head.proofs.Findings.{stop-alone}
 use Rattle.diagnosis.specs.Diagnosis.{due_after, by_cause, by_outcome, diagnosis_of}
-use Rattle.diagnosis.specs.Truth.{applied, takes, BusyFor, cover_moves, CoverMovesFor, NoKind, NotAllowed, MirrorWordDue, Says}
-use Rattle.diagnosis.specs.declared.Diagnosis.{Diagnosis}
+use Rattle.diagnosis.specs.Truth.{applied, BusyFor, cover_moves, CoverMovesFor, MirrorWordDue, Says}
 
 -- a head in range, and what ticks leave of it
 module _ (s : Head) (ranged : in_range s ≡ true) where

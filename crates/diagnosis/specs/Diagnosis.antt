@@ -1,6 +1,6 @@
 -- Document 02, request P7: what became of a word w that a head s got, read off the head's own answer and the state before it.
 -- Assumes nothing.
-use Rattle.std.specs.Prelude.{ℕ, cond, List, [], ◌∷◌, get_or}
+use Rattle.std.specs.Prelude.{ℕ, cond, [], ◌∷◌, get_or}
 use Rattle.words.specs.Kinds as kind
 use Rattle.words.specs.Kinds.{identifier, kind_of}
 use Rattle.head.specs.Busy.{busy_ticks}

@@ -1,9 +1,9 @@
 -- The ways through the code that passes a word on.
 -- Assumes nothing.
-use mathlib.Core.Path.{◌≡◌, refl, sym, ap, ◌∙◌}
-use mathlib.Core.Bool.{Bool, true, false, not, ◌&&◌, ◌||◌, true≢false}
+use mathlib.Core.Path.{◌≡◌, refl, ◌∙◌}
+use mathlib.Core.Bool.{Bool, true, false, not, ◌&&◌, true≢false}
 use mathlib.Core.Logic.{◌⊎◌}
-use Prim.Native.Nat.{ℕ, zero, suc, ◌<◌}
+use Prim.Native.Nat.{ℕ, zero, suc}
 use lib.Dec.{eqb, leb}
 use native.Mathlib.Omega.{arith}
 use borrow.Author.Tests.{lt-leb, ne_eqb}
@@ -26,7 +26,6 @@ use Rattle.head.proofs.Findings.{no_word}
 use Rattle.operators.specs.Passing.{is_operator, in_group, passes, passed_on, passing_number, pass_on_number}
 use Rattle.operators.specs.declared.Passing.{Passing}
 use Rattle.operators.specs.declared.Passing.TheVariants.{StateRefused, NotPassed, Passed}
-use Rattle.operators.specs.declared.PassedOn.{PassedOn}
 
 -- `number`: p is what became of the word
 module _ (p : Passing) (r : ℕ) where

@@ -1,9 +1,7 @@
 -- `merge::rises` meets its contract. The loop's invariant: the ticks rise if they do from i on.
 use Prim.Native.Nat.{◌-◌}
-use native.Mathlib.Omega.{arith}
 use lib.ListN.{length}
-use Rattle.merge.proofs.Ticks.{Judging, judging-first, judging-next, falling, judged}
-use borrow.Author.Rules.{rules}
+use Rattle.merge.proofs.Ticks.{Judging}
 use Rattle.merge.proofs.rises.Given as goal
 
 abbrev pub invariant-loop-i : goal.invariant-loop-i

@@ -1,8 +1,6 @@
 -- `merge::turns::walk` meets its contract. The loop's invariant: the way has come to the places i and j.
-use Prim.Native.Nat.{◌+◌, ◌-◌}
-use lib.ListN.{length}
 use Rattle.merge.proofs.Stepping.{turn-less}
-use Rattle.merge.proofs.Walking.{Way, way-first, way_next, way-over}
+use Rattle.merge.proofs.Walking.{way-first, way_next, way-over}
 use borrow.Author.Rules.{rules}
 use Rattle.merge.proofs.turns.walk.Goals as goal
 

@@ -1,9 +1,7 @@
 -- `merge::turns::walk` meets its contract. The loop's invariant: the way has come to the places i and j.
 use Prim.Native.Nat.{◌+◌, ◌-◌}
 use lib.ListN.{length}
-use Rattle.merge.proofs.Stepping.{turn-less}
-use Rattle.merge.proofs.Walking.{Way, way-first, way_next, way-over}
-use borrow.Author.Rules.{rules}
+use Rattle.merge.proofs.Walking.{Way}
 use Rattle.merge.proofs.turns.walk.Given as goal
 
 abbrev pub invariant-loop-n : goal.invariant-loop-n

@@ -1,9 +1,7 @@
 -- `merge::turns::write` meets its contract. The loop's invariant: what is left of the merged part is to be written from place i + j on.
 use Prim.Native.Nat.{◌+◌, ◌-◌}
 use lib.ListN.{length}
-use Rattle.merge.proofs.Stepping.{turn-less}
-use Rattle.merge.proofs.Writing.{Writing, writing-first, writing-place, writing-fits, writing-next, writing-over}
-use borrow.Author.Rules.{rules}
+use Rattle.merge.proofs.Writing.{Writing}
 use Rattle.merge.proofs.turns.write.Given as goal
 
 abbrev pub invariant-loop-entry : goal.invariant-loop-entry
