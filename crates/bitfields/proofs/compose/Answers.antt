@@ -1,8 +1,6 @@
 -- `bitfields::compose` meets its contract. The loop's invariant: what is composed so far, and what is from row i on, make the word.
-use Rattle.std.proofs.Common.{◌≡◌, ◌+◌, ◌-◌, ◌%◌, ◌^◌, ◌<◌, ◌≤◌, length, rules}
-use Rattle.bitfields.specs.Fields.{composed, word_bits}
-use Rattle.bitfields.specs.Rows.{fields_in}
-use Rattle.bitfields.proofs.Rows.{from, compose-begun, compose-turn, compose-word, compose-done, shorter-left, shorter-right}
+use Rattle.std.proofs.Common.{rules}
+use Rattle.bitfields.proofs.Rows.{compose-begun, compose-turn, compose-word, compose-done, shorter-left, shorter-right}
 use Rattle.bitfields.proofs.compose.Goals as goal
 
 pub loop-i-init : goal.loop-i-init

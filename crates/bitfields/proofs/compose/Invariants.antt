@@ -1,8 +1,8 @@
 -- `bitfields::compose` meets its contract. The loop's invariant: what is composed so far, and what is from row i on, make the word.
-use Rattle.std.proofs.Common.{◌≡◌, ◌+◌, ◌-◌, ◌%◌, ◌^◌, ◌<◌, ◌≤◌, length, rules}
+use Rattle.std.proofs.Common.{◌≡◌, ◌+◌, ◌-◌, ◌%◌, ◌^◌, ◌<◌, ◌≤◌, length}
 use Rattle.bitfields.specs.Fields.{composed, word_bits}
 use Rattle.bitfields.specs.Rows.{fields_in}
-use Rattle.bitfields.proofs.Rows.{from, compose-begun, compose-turn, compose-word, compose-done, shorter-left, shorter-right}
+use Rattle.bitfields.proofs.Rows.{from}
 use Rattle.bitfields.proofs.compose.Given as goal
 
 abbrev pub invariant-loop-i : goal.invariant-loop-i

@@ -1,8 +1,5 @@
 -- `bitfields::values_in` meets its contract. The loop's invariant: the first i values are stored, and the other places are as they were.
-use Rattle.std.proofs.Common.{◌≡◌, ◌-◌, ◌≤◌, length, rules}
-use lib.Seq.{paste}
-use Rattle.bitfields.specs.Fields.{values_in}
-use Rattle.bitfields.specs.Rows.{fields_in}
+use Rattle.std.proofs.Common.{rules}
 use Rattle.bitfields.proofs.Rows.{read-turn, read_done, kept, shorter-left, shorter-right}
 use Rattle.bitfields.proofs.values_in.Goals as goal
 

@@ -1,9 +1,7 @@
 -- `pixels::ones` meets its contract. The loop's invariant: the bits of the first i bytes are counted.
 use Prim.Native.Nat.{◌-◌, ◌*◌, ◌≤◌}
 use mathlib.Core.Path.{◌≡◌}
-use borrow.Author.Rules.{rules}
 use Rattle.pixels.specs.Map.{is_set, how_many}
-use Rattle.pixels.proofs.Maps.{none-counted, count-byte, count_fits, count-done}
 use Rattle.pixels.proofs.ones.Given as goal
 
 abbrev pub invariant-loop-i : goal.invariant-loop-i

@@ -1,8 +1,4 @@
 -- `requests::first_from` meets its contract.
-use Prim.Native.Nat.{◌-◌}
-use mathlib.Core.Path.{◌≡◌}
-use lib.ListN.{length, drop}
-use Rattle.requests.specs.Rows.{rows_in, first_from}
 use borrow.Author.Rules.{rules}
 use Rattle.requests.proofs.Rows.{first-here, first-later, first-none}
 use Rattle.requests.proofs.first_from.Goals as goal

@@ -1,9 +1,4 @@
 -- `requests::has_code` meets its contract.
-use Prim.Native.Nat.{◌-◌}
-use mathlib.Core.Path.{◌≡◌}
-use lib.ListN.{length, drop}
-use Rattle.requests.specs.Codec.{is_known}
-use Rattle.requests.specs.Rows.{rows_in}
 use borrow.Author.Rules.{rules}
 use Rattle.requests.proofs.Rows.{known-here, known-later, known-none}
 use Rattle.requests.proofs.has_code.Goals as goal

@@ -4,8 +4,6 @@ use mathlib.Core.Path.{◌≡◌}
 use lib.ListN.{length, drop}
 use Rattle.requests.specs.Codec.{is_known}
 use Rattle.requests.specs.Rows.{rows_in}
-use borrow.Author.Rules.{rules}
-use Rattle.requests.proofs.Rows.{known-here, known-later, known-none}
 use Rattle.requests.proofs.has_code.Given as goal
 
 abbrev pub invariant-loop-i : goal.invariant-loop-i

@@ -1,6 +1,5 @@
 -- `requests::is_word_of` meets its contract.
 use Rattle.requests.specs.Codec.{is_word_of}
-use borrow.Author.Rules.{rules}
 use Rattle.requests.proofs.is_word_of.Goals as goal
 
 pub returns : goal.returns

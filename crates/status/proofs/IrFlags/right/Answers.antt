@@ -1,6 +1,5 @@
 -- `status::IrFlags::right` meets its contract.
 use Rattle.status.specs.Status.{ir_flags_right}
-use borrow.Author.Rules.{rules}
 use Rattle.status.proofs.IrFlags.right.Goals as goal
 
 pub returns : goal.returns

@@ -1,6 +1,5 @@
 -- `status::LampShutter::right` meets its contract.
 use Rattle.status.specs.Status.{lamp_shutter_right}
-use borrow.Author.Rules.{rules}
 use Rattle.status.proofs.LampShutter.right.Goals as goal
 
 pub returns : goal.returns

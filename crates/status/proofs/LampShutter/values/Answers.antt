@@ -1,7 +1,6 @@
 -- `status::LampShutter::values` meets its contract.
 use mathlib.Core.Path.{refl}
 use Rattle.bitfields.proofs.Flags.{flag-number}
-use borrow.Author.Rules.{rules}
 use Rattle.status.proofs.LampShutter.values.Goals as goal
 
 pub returns : goal.returns

@@ -1,6 +1,5 @@
 -- `status::Sine::right` meets its contract.
 use Rattle.status.specs.Status.{sine_right}
-use borrow.Author.Rules.{rules}
 use Rattle.status.proofs.Sine.right.Goals as goal
 
 pub returns : goal.returns

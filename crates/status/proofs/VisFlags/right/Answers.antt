@@ -1,6 +1,5 @@
 -- `status::VisFlags::right` meets its contract.
 use Rattle.status.specs.Status.{vis_flags_right}
-use borrow.Author.Rules.{rules}
 use Rattle.status.proofs.VisFlags.right.Goals as goal
 
 pub returns : goal.returns
