@@ -1,6 +1,5 @@
 -- `registers::lamp_values` meets its contract.
 use Rattle.registers.specs.Settings.{lamps_shown}
-use borrow.Author.Rules.{rules}
 use Rattle.registers.proofs.lamp_values.Goals as goal
 
 pub returns : goal.returns
