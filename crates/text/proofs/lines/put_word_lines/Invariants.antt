@@ -1,7 +1,6 @@
 -- `text::lines::put_word_lines` meets its contract. The loop's invariant: the lines from the ith on are left.
 use Prim.Native.Nat.{◌-◌}
-use Rattle.text.proofs.Printing.{Printing, printing-first, printing-next, printed}
-use borrow.Author.Rules.{rules}
+use Rattle.text.proofs.Printing.{Printing}
 use Rattle.text.proofs.lines.put_word_lines.Given as goal
 
 abbrev pub invariant-loop-i : goal.invariant-loop-i

@@ -1,5 +1,4 @@
 -- `text::listing::list_at_power_on` meets its contract.
-use borrow.Author.Rules.{rules}
 use Rattle.text.proofs.listing.list_at_power_on.Goals as goal
 
 pub returns : goal.returns
