@@ -1,6 +1,5 @@
 -- `import::line::end_in` meets its contract.
 use Rattle.import.proofs.Reading.{end_read}
-use borrow.Author.Rules.{rules}
 use Rattle.import.proofs.line.end_in.Goals as goal
 
 pub returns : goal.returns

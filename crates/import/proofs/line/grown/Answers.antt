@@ -2,7 +2,6 @@
 use Rattle.import.proofs.Counting.{grown-small}
 use native.Mathlib.Omega.{arith}
 use Rattle.import.proofs.Bytes.{value-small}
-use borrow.Author.Rules.{rules}
 use Rattle.import.proofs.line.grown.Goals as goal
 
 pub overflow_mul-next : goal.overflow_mul-next

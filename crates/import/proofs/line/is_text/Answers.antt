@@ -1,7 +1,5 @@
 -- `import::line::is_text` meets its contract. The loop's invariant: the first i bytes read alike.
-use Prim.Native.Nat.{◌-◌}
-use lib.ListN.{length}
-use Rattle.import.proofs.Comparing.{Comparing, text-apart, comparing-first, comparing-next, comparing-apart, compared}
+use Rattle.import.proofs.Comparing.{text-apart, comparing-first, comparing-next, comparing-apart, compared}
 use borrow.Author.Rules.{rules}
 use Rattle.import.proofs.line.is_text.Goals as goal
 

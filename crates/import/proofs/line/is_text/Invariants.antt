@@ -1,8 +1,7 @@
 -- `import::line::is_text` meets its contract. The loop's invariant: the first i bytes read alike.
 use Prim.Native.Nat.{◌-◌}
 use lib.ListN.{length}
-use Rattle.import.proofs.Comparing.{Comparing, text-apart, comparing-first, comparing-next, comparing-apart, compared}
-use borrow.Author.Rules.{rules}
+use Rattle.import.proofs.Comparing.{Comparing}
 use Rattle.import.proofs.line.is_text.Given as goal
 
 abbrev pub invariant-loop-i : goal.invariant-loop-i

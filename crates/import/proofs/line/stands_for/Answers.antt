@@ -1,6 +1,5 @@
 -- `import::line::stands_for` meets its contract.
 use Rattle.import.specs.Line.{stands_for}
-use borrow.Author.Rules.{rules}
 use Rattle.import.proofs.line.stands_for.Goals as goal
 
 pub returns : goal.returns

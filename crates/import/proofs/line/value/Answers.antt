@@ -1,7 +1,5 @@
 -- `import::line::value` meets its contract. The loop's invariant: the digits from the ith on are left.
-use Prim.Native.Nat.{◌-◌}
-use lib.ListN.{length}
-use Rattle.import.proofs.Counting.{Counting, counting-first, counting-next, counted}
+use Rattle.import.proofs.Counting.{counting-first, counting-next, counted}
 use borrow.Author.Rules.{rules}
 use Rattle.import.proofs.line.value.Goals as goal
 

@@ -1,8 +1,7 @@
 -- `import::line::value` meets its contract. The loop's invariant: the digits from the ith on are left.
 use Prim.Native.Nat.{◌-◌}
 use lib.ListN.{length}
-use Rattle.import.proofs.Counting.{Counting, counting-first, counting-next, counted}
-use borrow.Author.Rules.{rules}
+use Rattle.import.proofs.Counting.{Counting}
 use Rattle.import.proofs.line.value.Given as goal
 
 abbrev pub invariant-loop-i : goal.invariant-loop-i

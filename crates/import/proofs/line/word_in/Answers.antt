@@ -1,6 +1,5 @@
 -- `import::line::word_in` meets its contract.
 use Rattle.import.proofs.Reading.{word_read}
-use borrow.Author.Rules.{rules}
 use Rattle.import.proofs.line.word_in.Goals as goal
 
 pub returns : goal.returns

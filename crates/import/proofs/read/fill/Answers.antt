@@ -1,8 +1,7 @@
 -- `import::read::fill` meets its contract. The loop's invariant: i lines have been stored, and those from a place on are left.
-use Prim.Native.Nat.{◌-◌}
 use native.Mathlib.Omega.{arith}
-use Rattle.import.proofs.Lines.{first_short, ends-within}
-use Rattle.import.proofs.Filling.{Filling, at_first, at_next, filling-first, more-text, word-free, tick-free, words-less, filling-next, filled-words, filled-ticks}
+use Rattle.import.proofs.Lines.{ends-within}
+use Rattle.import.proofs.Filling.{at_first, at_next, filling-first, more-text, word-free, tick-free, words-less, filling-next, filled-words, filled-ticks}
 use borrow.Author.Rules.{rules}
 use Rattle.import.proofs.read.fill.Goals as goal
 

@@ -1,9 +1,6 @@
 -- `import::read::fill` meets its contract. The loop's invariant: i lines have been stored, and those from a place on are left.
 use Prim.Native.Nat.{◌-◌}
-use native.Mathlib.Omega.{arith}
-use Rattle.import.proofs.Lines.{first_short, ends-within}
-use Rattle.import.proofs.Filling.{Filling, at_first, at_next, filling-first, more-text, word-free, tick-free, words-less, filling-next, filled-words, filled-ticks}
-use borrow.Author.Rules.{rules}
+use Rattle.import.proofs.Filling.{Filling}
 use Rattle.import.proofs.read.fill.Given as goal
 
 abbrev pub invariant-loop-i : goal.invariant-loop-i

@@ -1,9 +1,7 @@
 -- `import::read::judge` meets its contract. The loop's invariant: the lines from a place on are left.
-use Prim.Native.Nat.{◌-◌}
-use lib.ListN.{length}
 use native.Mathlib.Omega.{arith}
 use Rattle.import.proofs.Lines.{ends-within}
-use Rattle.import.proofs.Whole.{Judging, judging-first, judging-next, judging-done}
+use Rattle.import.proofs.Whole.{judging-first, judging-next, judging-done}
 use borrow.Author.Rules.{rules}
 use Rattle.import.proofs.read.judge.Goals as goal
 

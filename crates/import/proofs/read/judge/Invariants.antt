@@ -1,10 +1,7 @@
 -- `import::read::judge` meets its contract. The loop's invariant: the lines from a place on are left.
 use Prim.Native.Nat.{◌-◌}
 use lib.ListN.{length}
-use native.Mathlib.Omega.{arith}
-use Rattle.import.proofs.Lines.{ends-within}
-use Rattle.import.proofs.Whole.{Judging, judging-first, judging-next, judging-done}
-use borrow.Author.Rules.{rules}
+use Rattle.import.proofs.Whole.{Judging}
 use Rattle.import.proofs.read.judge.Given as goal
 
 abbrev pub invariant-loop-at : goal.invariant-loop-at

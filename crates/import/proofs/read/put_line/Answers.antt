@@ -1,5 +1,4 @@
 -- `import::read::put_line` meets its contract.
-use borrow.Author.Rules.{rules}
 use Rattle.import.proofs.read.put_line.Goals as goal
 
 pub returns : goal.returns

@@ -1,8 +1,6 @@
 -- `import::split::line_count` meets its contract. The loop's invariant: the lines before a place are counted.
-use Prim.Native.Nat.{◌-◌}
-use lib.ListN.{length}
 use native.Mathlib.Omega.{arith}
-use Rattle.import.proofs.Lines.{Passing, passing-first, passing-next, passed, ends-within}
+use Rattle.import.proofs.Lines.{passing-first, passing-next, passed, ends-within}
 use borrow.Author.Rules.{rules}
 use Rattle.import.proofs.split.line_count.Goals as goal
 

@@ -1,9 +1,7 @@
 -- `import::split::line_count` meets its contract. The loop's invariant: the lines before a place are counted.
 use Prim.Native.Nat.{◌-◌}
 use lib.ListN.{length}
-use native.Mathlib.Omega.{arith}
-use Rattle.import.proofs.Lines.{Passing, passing-first, passing-next, passed, ends-within}
-use borrow.Author.Rules.{rules}
+use Rattle.import.proofs.Lines.{Passing}
 use Rattle.import.proofs.split.line_count.Given as goal
 
 abbrev pub invariant-loop-at : goal.invariant-loop-at

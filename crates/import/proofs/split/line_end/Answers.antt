@@ -1,7 +1,5 @@
 -- `import::split::line_end` meets its contract. The loop's invariant: no newline stands before the end.
-use Prim.Native.Nat.{◌-◌}
-use lib.ListN.{length}
-use Rattle.import.proofs.Scanning.{Scanning, scanning-first, scanning-next, scanned-found, scanned-all}
+use Rattle.import.proofs.Scanning.{scanning-first, scanning-next, scanned-found, scanned-all}
 use borrow.Author.Rules.{rules}
 use Rattle.import.proofs.split.line_end.Goals as goal
 

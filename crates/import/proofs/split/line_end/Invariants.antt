@@ -1,8 +1,7 @@
 -- `import::split::line_end` meets its contract. The loop's invariant: no newline stands before the end.
 use Prim.Native.Nat.{◌-◌}
 use lib.ListN.{length}
-use Rattle.import.proofs.Scanning.{Scanning, scanning-first, scanning-next, scanned-found, scanned-all}
-use borrow.Author.Rules.{rules}
+use Rattle.import.proofs.Scanning.{Scanning}
 use Rattle.import.proofs.split.line_end.Given as goal
 
 abbrev pub invariant-loop-end : goal.invariant-loop-end
