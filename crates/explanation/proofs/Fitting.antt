@@ -1,17 +1,16 @@
 -- How long a line is at most.
 -- Assumes nothing.
-use mathlib.Core.Path.{◌≡◌, refl}
-use mathlib.Core.List.{List, [], ◌∷◌, ◌++◌}
-use Prim.Native.Nat.{ℕ, ◌+◌, ◌≤◌}
+use mathlib.Core.Path.{refl}
+use mathlib.Core.List.{[], ◌∷◌, ◌++◌}
+use Prim.Native.Nat.{ℕ, ◌≤◌}
 use native.Mathlib.Omega.{arith}
 use borrow.Author.Tests.{leb-true}
-use lib.Dec.{leb, eqb}
+use lib.Dec.{eqb}
 use lib.ListN.{length, length-append}
 use Rattle.layout.specs.Numbers.{bit, ascii, hex_of}
-use Rattle.layout.specs.Template.{layout}
 use Rattle.layout.proofs.Alternatives.{most_from, most_of, layout-most}
 use Rattle.names.specs.Kind.{bare_name}
-use Rattle.names.proofs.Columns.{most_name, name-few}
+use Rattle.names.proofs.Columns.{name-few}
 use Rattle.diagnosis.specs.declared.Diagnosis.{Diagnosis}
 use Rattle.diagnosis.specs.declared.Diagnosis.TheVariants.{Taken, StateOutOfRange, HeadBusy, CoverMoves, UnknownIdentifier, DataOutOfRange, OutOfTurn}
 use Rattle.explanation.specs.Explanation.{wait_template, seconds_width, wait_text, unknown_text, range_text, turn_text, explanation_text}

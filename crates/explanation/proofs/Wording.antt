@@ -1,11 +1,10 @@
 -- The line of each case written part by part, and the ways through `put_explanation`.
 -- Assumes nothing.
 use mathlib.Core.Path.{◌≡◌}
-use mathlib.Core.Bool.{Bool}
 use mathlib.Core.List.{List, [], ◌∷◌, ◌++◌}
 use Prim.Native.Nat.{ℕ, ◌≤◌, ◌<◌}
 use borrow.Author.Tests.{lt-ltb, le-ltb}
-use lib.Dec.{eqb, ltb}
+use lib.Dec.{eqb}
 use Rattle.layout.specs.Numbers.{bit, ascii, hex_of}
 use Rattle.layout.specs.Template.{layout}
 use Rattle.layout.specs.Written.{Written}
