@@ -1,6 +1,5 @@
 -- `orders::codes::count_of` meets its contract: the digits are `count_of` at every place.
 use mathlib.Core.Path.{◌∙◌}
-use borrow.Author.Rules.{rules}
 use Rattle.orders.specs.Codes.{rows, count_of}
 use Rattle.orders.proofs.Rows.{count_by}
 use Rattle.orders.proofs.codes.count_of.Goals as goal

@@ -1,6 +1,5 @@
 -- `orders::codes::digit` meets its contract.
 use native.Mathlib.Omega.{arith}
-use borrow.Author.Rules.{rules}
 use Rattle.orders.proofs.Rows.{place-index}
 use Rattle.orders.proofs.codes.digit.Goals as goal
 

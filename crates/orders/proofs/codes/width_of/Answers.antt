@@ -1,6 +1,5 @@
 -- `orders::codes::width_of` meets its contract: the digits are `width_of` at every place.
 use mathlib.Core.Path.{◌∙◌}
-use borrow.Author.Rules.{rules}
 use Rattle.orders.specs.Codes.{rows, width_of}
 use Rattle.orders.proofs.Rows.{width-by}
 use Rattle.orders.proofs.codes.width_of.Goals as goal

@@ -1,5 +1,4 @@
 -- `orders::encoding::one` meets its contract.
-use borrow.Author.Rules.{rules}
 use Rattle.orders.specs.Encoding.{listed}
 use Rattle.orders.proofs.encoding.one.Goals as goal
 

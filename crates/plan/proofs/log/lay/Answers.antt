@@ -1,11 +1,10 @@
 -- `plan::log::lay` meets its contract. The loop's invariant: i numbers of the row have been laid.
-use mathlib.Core.Path.{◌≡◌, sym, ◌∙◌}
-use Prim.Native.Nat.{◌+◌, ◌-◌, ◌*◌, ◌≤◌}
+use mathlib.Core.Path.{sym, ◌∙◌}
+use Prim.Native.Nat.{◌+◌, ◌*◌, ◌≤◌}
 use native.Mathlib.Nat.{add-zero}
 use native.Mathlib.Omega.{arith}
 use borrow.Author.Rules.{rules}
 use lib.ListN.{length, drop}
-use lib.Seq.{sets}
 use Rattle.plan.proofs.Laid.{sets-past, laid_next, laid-last}
 use Rattle.plan.proofs.log.lay.Goals as goal
 

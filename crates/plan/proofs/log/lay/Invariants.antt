@@ -1,12 +1,8 @@
 -- `plan::log::lay` meets its contract. The loop's invariant: i numbers of the row have been laid.
-use mathlib.Core.Path.{◌≡◌, sym, ◌∙◌}
-use Prim.Native.Nat.{◌+◌, ◌-◌, ◌*◌, ◌≤◌}
-use native.Mathlib.Nat.{add-zero}
-use native.Mathlib.Omega.{arith}
-use borrow.Author.Rules.{rules}
+use mathlib.Core.Path.{◌≡◌}
+use Prim.Native.Nat.{◌+◌, ◌-◌, ◌≤◌}
 use lib.ListN.{length, drop}
 use lib.Seq.{sets}
-use Rattle.plan.proofs.Laid.{sets-past, laid_next, laid-last}
 use Rattle.plan.proofs.log.lay.Given as goal
 
 abbrev pub invariant-loop-i : goal.invariant-loop-i

@@ -2,7 +2,6 @@
 use Rattle.plan.specs.Rows.{entry_row}
 use Rattle.plan.proofs.Recorded.{one-row, no_row}
 use Rattle.plan.proofs.Logging.{entries-cover, entries-expose, entries-request, entries_none}
-use borrow.Author.Rules.{rules}
 use Rattle.plan.proofs.reading.log_order.Goals as goal
 
 pub returns-then-code-eq-COVER : goal.returns-then-code-eq-COVER

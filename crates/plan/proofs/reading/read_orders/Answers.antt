@@ -1,11 +1,9 @@
 -- `plan::reading::read_orders` meets its contract. The loop's invariant: k orders have been read.
 use mathlib.Core.Path.{◌∙◌}
-use Prim.Native.Nat.{◌-◌, ◌≤◌, ◌<◌}
+use Prim.Native.Nat.{◌≤◌, ◌<◌}
 use native.Mathlib.Omega.{arith}
-use Rattle.plan.specs.Stored.{plan_of, orders_in}
 use Rattle.plan.specs.Rows.{end_row}
-use Rattle.plan.proofs.Logging.{Logging, logging-first, logging-room, logging-order, logging-fits, logging-ends, logging-next, logged-acts, logged-rows}
-use borrow.Author.Rules.{rules}
+use Rattle.plan.proofs.Logging.{logging-first, logging-room, logging-order, logging-fits, logging-ends, logging-next, logged-acts, logged-rows}
 use Rattle.plan.proofs.reading.read_orders.Goals as goal
 
 pub loop-k-init : goal.loop-k-init

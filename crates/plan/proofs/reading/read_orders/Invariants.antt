@@ -1,11 +1,7 @@
 -- `plan::reading::read_orders` meets its contract. The loop's invariant: k orders have been read.
-use mathlib.Core.Path.{◌∙◌}
-use Prim.Native.Nat.{◌-◌, ◌≤◌, ◌<◌}
-use native.Mathlib.Omega.{arith}
+use Prim.Native.Nat.{◌-◌}
 use Rattle.plan.specs.Stored.{plan_of, orders_in}
-use Rattle.plan.specs.Rows.{end_row}
-use Rattle.plan.proofs.Logging.{Logging, logging-first, logging-room, logging-order, logging-fits, logging-ends, logging-next, logged-acts, logged-rows}
-use borrow.Author.Rules.{rules}
+use Rattle.plan.proofs.Logging.{Logging}
 use Rattle.plan.proofs.reading.read_orders.Given as goal
 
 abbrev pub invariant-loop-k : goal.invariant-loop-k

@@ -1,6 +1,5 @@
 -- `plan::settings::switched` meets its contract, and the value fits.
 use native.Mathlib.Omega.{arith}
-use borrow.Author.Rules.{rules}
 use Rattle.plan.proofs.Registers.{current-most}
 use Rattle.plan.proofs.settings.switched.Goals as goal
 

@@ -1,7 +1,6 @@
 -- `plan::stored::fields_at` meets its contract.
 use native.Mathlib.Omega.{arith}
 use Rattle.plan.proofs.Bytes.{field-value, field_past, field-reach, fields_read}
-use borrow.Author.Rules.{rules}
 use Rattle.plan.proofs.stored.fields_at.Goals as goal
 
 pub returns-then-count-eq0 : goal.returns-then-count-eq0

@@ -1,13 +1,8 @@
 -- `plan::stored::judge_orders` meets its contract. The loop's invariant: the whole answer is that of the orders from here on, the ones
 -- passed counted. The measure is what is left of the bytes.
-use Prim.Native.Nat.{◌-◌, ◌≤◌}
-use mathlib.Core.Path.{◌≡◌}
 use borrow.Author.Rules.{rules}
-use lib.ListN.{length}
-use Rattle.plan.specs.Stored.{orders_from, most_orders}
-use Rattle.plan.specs.Judged.{judged_of}
 use Rattle.plan.proofs.Bytes.{checked-fault}
-use Rattle.plan.proofs.Judging.{counted, counted_none, judged-end, judged-many, judged-fault, judged-next}
+use Rattle.plan.proofs.Judging.{counted_none, judged-end, judged-many, judged-fault, judged-next}
 use Rattle.plan.proofs.stored.judge_orders.Goals as goal
 
 pub loop-at-init : goal.loop-at-init

@@ -1,6 +1,5 @@
 -- `plan::stored::value_at` meets its contract.
 use native.Mathlib.Omega.{arith}
-use borrow.Author.Rules.{rules}
 use Rattle.plan.proofs.stored.value_at.Goals as goal
 
 pub overflow_mul-i : goal.overflow_mul-i

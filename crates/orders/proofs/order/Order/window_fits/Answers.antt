@@ -1,6 +1,5 @@
 -- `orders::order::Order::window_fits` meets its contract.
 use Rattle.orders.proofs.Fit.{fits-window}
-use borrow.Author.Rules.{rules}
 use Rattle.orders.proofs.order.Order.window_fits.Goals as goal
 
 pub returns : goal.returns

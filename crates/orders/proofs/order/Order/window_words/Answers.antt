@@ -1,5 +1,4 @@
 -- `orders::order::Order::window_words` meets its contract.
-use borrow.Author.Rules.{rules}
 use Rattle.words.specs.Kinds.{rows}
 use Rattle.words.specs.Codec.{word_of}
 use Rattle.orders.specs.Words.{words_of}
