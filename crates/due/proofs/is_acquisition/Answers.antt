@@ -1,6 +1,5 @@
 -- `due::is_acquisition` meets its contract.
 use Rattle.due.specs.Due.{acquisition}
-use borrow.Author.Rules.{rules}
 use Rattle.due.proofs.is_acquisition.Goals as goal
 
 pub returns-in-Idle : goal.returns-in-Idle

@@ -1,11 +1,9 @@
 -- `due::write_both` meets its contract.
 use mathlib.Core.Path.{◌≡◌, refl}
-use mathlib.Core.List.{List}
 use Rattle.blocks.specs.Written.{buffer_after}
 use Rattle.blocks.specs.Ir.{ir_block_of}
 use Rattle.blocks.specs.Ccd.{ccd_block_of}
 use Rattle.blocks.specs.declared.refusal.Refusal.TheVariants.{Length}
-use Rattle.blocks.specs.declared.written.Written.{Written}
 use Rattle.blocks.specs.declared.written.Written.TheVariants.{Refused}
 use Rattle.blocks.proofs.Judged.{unequal}
 use Rattle.due.specs.Due.{both_written_of}

@@ -1,6 +1,5 @@
 -- `blocks::ccd::said` meets its contract.
 use Rattle.blocks.specs.Ccd.{ccd_said}
-use borrow.Author.Rules.{rules}
 use Rattle.blocks.proofs.ccd.said.Goals as goal
 
 pub returns : goal.returns

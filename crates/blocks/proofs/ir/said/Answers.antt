@@ -1,6 +1,5 @@
 -- `blocks::ir::said` meets its contract.
 use Rattle.blocks.specs.Ir.{ir_said}
-use borrow.Author.Rules.{rules}
 use Rattle.blocks.proofs.ir.said.Goals as goal
 
 pub returns : goal.returns

@@ -1,6 +1,5 @@
 -- `blocks::ccd::CcdMeaning::shown` meets its contract.
 use Rattle.blocks.specs.Ccd.{ccd_shown}
-use borrow.Author.Rules.{rules}
 use Rattle.blocks.proofs.ccd.CcdMeaning.shown.Goals as goal
 
 pub returns : goal.returns

@@ -1,6 +1,5 @@
 -- `blocks::ccd::CcdMeaning::status` meets its contract.
 use Rattle.blocks.specs.Ccd.{ccd_status}
-use borrow.Author.Rules.{rules}
 use Rattle.blocks.proofs.ccd.CcdMeaning.status.Goals as goal
 
 pub returns : goal.returns

@@ -1,6 +1,5 @@
 -- `blocks::ir::IrMeaning::status` meets its contract.
 use Rattle.blocks.specs.Ir.{ir_status}
-use borrow.Author.Rules.{rules}
 use Rattle.blocks.proofs.ir.IrMeaning.status.Goals as goal
 
 pub returns : goal.returns
