@@ -1,5 +1,4 @@
 -- `interface::shabgozim_encode` meets its contract.
-use borrow.Author.Rules.{rules}
 use Rattle.interface.proofs.shabgozim_encode.Goals as goal
 
 pub returns : goal.returns

@@ -1,6 +1,5 @@
 -- `interface::answers::refused_number` meets its contract.
 use Rattle.interface.specs.Blocks.{refusal_answer}
-use borrow.Author.Rules.{rules}
 use Rattle.interface.proofs.answers.refused_number.Goals as goal
 
 pub returns : goal.returns

@@ -1,5 +1,4 @@
 -- `interface::readings::ir_status_numbers` meets its contract.
-use borrow.Author.Rules.{rules}
 use Rattle.interface.proofs.readings.ir_status_numbers.Goals as goal
 
 pub returns : goal.returns

@@ -1,6 +1,5 @@
 -- `interface::state::head_of` meets its contract.
 use Rattle.interface.proofs.Arrays.{head-there, head-none}
-use borrow.Author.Rules.{rules}
 use Rattle.interface.proofs.state.head_of.Goals as goal
 
 pub returns-then-s-eq-PLACES : goal.returns-then-s-eq-PLACES

@@ -1,11 +1,8 @@
 -- `interface::state::put` meets its contract.
-use borrow.Author.Rules.{rules}
 use mathlib.Core.Path.{◌≡◌}
 use Prim.Native.Nat.{◌+◌, ◌-◌, ◌≤◌}
-use native.Mathlib.Nat.{add-zero}
 use lib.ListN.{length, drop}
 use lib.Seq.{sets}
-use Rattle.interface.proofs.Storing.{put-more, put_all}
 use Rattle.interface.proofs.state.put.Given as goal
 
 abbrev pub invariant-loop-i : goal.invariant-loop-i

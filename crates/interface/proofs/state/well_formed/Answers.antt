@@ -1,7 +1,6 @@
 -- `interface::state::well_formed` meets its contract.
 use mathlib.Core.Path.{refl}
 use Rattle.interface.specs.State.{well_formed}
-use borrow.Author.Rules.{rules}
 use Rattle.interface.proofs.state.well_formed.Goals as goal
 
 pub returns : goal.returns
