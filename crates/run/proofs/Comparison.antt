@@ -12,7 +12,7 @@ use Rattle.plan.specs.Read.{read_record}
 use Rattle.plan.specs.Stored.{plan_of}
 use Rattle.plan.proofs.Recorded.{record-long}
 use Rattle.schedule.specs.Schedule.{Schedule}
-use Rattle.schedule.specs.Translate.{most_words, schedule_of, translate_of, filled, tick_list, word_list, translated_number, translated_place, translation_number, translation_place}
+use Rattle.schedule.specs.Translate.{most_words, schedule_of, translate_of, filled, tick_list, word_list, translation_number, translation_place}
 use Rattle.schedule.specs.declared.Translated.{Translated}
 use Rattle.run.specs.Run.{moments_of, head_after, log_of}
 use Rattle.run.specs.Rehearse.{rehearsed_by, rehearse_of, translation_of, run_of, run_record, run_times, rehearsed_number, rehearsed_place}

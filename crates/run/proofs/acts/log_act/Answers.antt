@@ -4,7 +4,6 @@ use Rattle.plan.specs.Reading.{exposure}
 use Rattle.plan.specs.Rows.{entry_row}
 use Rattle.run.specs.Run.{entry_of}
 use Rattle.run.proofs.Acting.{act-put, act-none}
-use borrow.Author.Rules.{rules}
 use Rattle.run.proofs.acts.log_act.Goals as goal
 
 pub put_act-requires : goal.put_act-requires

@@ -1,7 +1,6 @@
 -- `run::acts::log_outcome` meets its contract.
 use Rattle.run.specs.Run.{entries_of}
 use Rattle.run.proofs.Acting.{act-none}
-use borrow.Author.Rules.{rules}
 use Rattle.run.proofs.acts.log_outcome.Goals as goal
 
 pub log_act-requires : goal.log_act-requires

@@ -10,7 +10,6 @@ use Rattle.plan.specs.Stored.{plan_of}
 use Rattle.plan.proofs.Recorded.{front_long}
 use Rattle.plan.proofs.Logging.{read-room}
 use Rattle.run.proofs.Agreeing.{agree-refused, agree-other, agree-compared}
-use borrow.Author.Rules.{rules}
 use Rattle.run.proofs.compare.agrees.Goals as goal
 
 -- the second record keeps its length

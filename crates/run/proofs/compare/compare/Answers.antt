@@ -11,7 +11,7 @@ agrees-requires c =
     let r = c.rehearse-rehearsed in
     let e = r.ensures in
     let ran : Answers a.head a.plan.now a.words.now a.ticks.now a.rows.now a.times.now r.result r.new.words r.new.ticks r.new.rows r.new.times =
-        (e.value, (e.words_after, (e.ticks_after, (e.rows_after, (e.times_after, (e.fulfilled, (e.result_value, e.result_value_2))))))) in
+    (e.value, (e.words_after, (e.ticks_after, (e.rows_after, (e.times_after, (e.fulfilled, (e.result_value, e.result_value_2))))))) in
     record { fact_1 = way-acts a.head a.plan.now a.words.now a.ticks.now a.rows.now a.times.now (search rules) (search rules) ran c.in-Done.is; fact_2 = omega (arith, way-acts a.head a.plan.now a.words.now a.ticks.now a.rows.now a.times.now (search rules) (search rules) ran c.in-Done.is) }
 
 pub returns-in-Done : goal.returns-in-Done
@@ -20,7 +20,7 @@ returns-in-Done c =
     let r = c.rehearse-rehearsed in
     let e = r.ensures in
     let ran : Answers a.head a.plan.now a.words.now a.ticks.now a.rows.now a.times.now r.result r.new.words r.new.ticks r.new.rows r.new.times =
-        (e.value, (e.words_after, (e.ticks_after, (e.rows_after, (e.times_after, (e.fulfilled, (e.result_value, e.result_value_2))))))) in
+    (e.value, (e.words_after, (e.ticks_after, (e.rows_after, (e.times_after, (e.fulfilled, (e.result_value, e.result_value_2))))))) in
     let p = way-done a.head a.plan.now a.words.now a.ticks.now a.rows.now a.times.now (search rules) (search rules) ran c.in-Done.is c.agrees.ensures in
     record {
       value = p.0;
@@ -38,7 +38,7 @@ returns-in_default c =
     let r = c.rehearse-rehearsed in
     let e = r.ensures in
     let ran : Answers a.head a.plan.now a.words.now a.ticks.now a.rows.now a.times.now r.result r.new.words r.new.ticks r.new.rows r.new.times =
-        (e.value, (e.words_after, (e.ticks_after, (e.rows_after, (e.times_after, (e.fulfilled, (e.result_value, e.result_value_2))))))) in
+    (e.value, (e.words_after, (e.ticks_after, (e.rows_after, (e.times_after, (e.fulfilled, (e.result_value, e.result_value_2))))))) in
     let p = way-refused a.head a.plan.now a.words.now a.ticks.now a.rows.now a.times.now (search rules) (search rules) ran c.in_default.not-Done c.number.ensures c.place.ensures in
     record {
       value = p.0;

@@ -1,11 +1,8 @@
 -- `run::compare::same_front` meets its contract. The loop's invariant: i numbers are the same.
-use mathlib.Core.Path.{◌≡◌, refl}
-use Prim.Native.Nat.{◌-◌, ◌≤◌, ◌<◌}
+use mathlib.Core.Path.{refl}
+use Prim.Native.Nat.{◌≤◌, ◌<◌}
 use native.Mathlib.Omega.{arith}
-use lib.ListN.{take, drop}
-use Rattle.run.specs.Compare.{same}
 use Rattle.run.proofs.Comparing.{same-last, same_next, same-differ}
-use borrow.Author.Rules.{rules}
 use Rattle.run.proofs.compare.same_front.Goals as goal
 
 pub loop-i-init : goal.loop-i-init

@@ -1,6 +1,5 @@
 -- `run::rehearse::give` meets its contract.
 use Rattle.run.specs.Run.{answered, next, moment_log}
-use borrow.Author.Rules.{rules}
 use Rattle.run.proofs.rehearse.give.Goals as goal
 
 pub log_outcome-acts-requires : goal.log_outcome-acts-requires

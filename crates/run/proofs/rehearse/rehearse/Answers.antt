@@ -12,7 +12,7 @@ run_words-ran-requires c =
     let r = c.translate-answer in
     let e = r.ensures in
     let t : Promised a.head a.plan.now a.words.now a.ticks.now r.result r.new.words r.new.ticks =
-        (e.value, (e.words_after, (e.ticks_after, (e.result_value, e.result_value_2)))) in
+    (e.value, (e.words_after, (e.ticks_after, (e.result_value, e.result_value_2)))) in
     record {
       count_in_bounds_1 = way-words a.head a.plan.now a.words.now a.ticks.now [] [] t c.in-Done.is;
       count_in_bounds_2 = way-ticks a.head a.plan.now a.words.now a.ticks.now [] [] t c.in-Done.is;
@@ -26,7 +26,7 @@ returns-in-Done c =
     let r = c.translate-answer in
     let e = r.ensures in
     let t : Promised a.head a.plan.now a.words.now a.ticks.now r.result r.new.words r.new.ticks =
-        (e.value, (e.words_after, (e.ticks_after, (e.result_value, e.result_value_2)))) in
+    (e.value, (e.words_after, (e.ticks_after, (e.result_value, e.result_value_2)))) in
     let run = c.run_words-ran.ensures in
     let p = way-done a.head a.plan.now a.words.now a.ticks.now a.rows.now a.times.now t c.in-Done.is (search rules) (search rules) (run.head_value, (run.acts_value, (run.rows_after, run.times_after))) in
     record {
@@ -46,7 +46,7 @@ returns-in-Refused c =
     let r = c.translate-answer in
     let e = r.ensures in
     let t : Promised a.head a.plan.now a.words.now a.ticks.now r.result r.new.words r.new.ticks =
-        (e.value, (e.words_after, (e.ticks_after, (e.result_value, e.result_value_2)))) in
+    (e.value, (e.words_after, (e.ticks_after, (e.result_value, e.result_value_2)))) in
     let p = way-refused a.head a.plan.now a.words.now a.ticks.now a.rows.now a.times.now t c.in-Refused.is in
     record {
       value = p.0;
@@ -65,7 +65,7 @@ returns-in-Short c =
     let r = c.translate-answer in
     let e = r.ensures in
     let t : Promised a.head a.plan.now a.words.now a.ticks.now r.result r.new.words r.new.ticks =
-        (e.value, (e.words_after, (e.ticks_after, (e.result_value, e.result_value_2)))) in
+    (e.value, (e.words_after, (e.ticks_after, (e.result_value, e.result_value_2)))) in
     let p = way-short a.head a.plan.now a.words.now a.ticks.now a.rows.now a.times.now t c.in-Short.is in
     record {
       value = p.0;

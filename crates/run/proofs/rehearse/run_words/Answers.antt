@@ -1,10 +1,9 @@
 -- `run::rehearse::run_words` meets its contract. The loop's invariant: i words have been given.
 use mathlib.Core.Path.{◌∙◌}
-use Prim.Native.Nat.{◌-◌, ◌<◌, ◌≤◌}
+use Prim.Native.Nat.{◌<◌, ◌≤◌}
 use native.Mathlib.Omega.{arith}
 use Rattle.plan.specs.Rows.{end_row}
-use Rattle.run.proofs.Rehearsing.{Running, running-first, running-ends, running-after, running-before, running-room, running-next, running-last, running-acts, running-rows, running-times}
-use borrow.Author.Rules.{rules}
+use Rattle.run.proofs.Rehearsing.{running-first, running-ends, running-after, running-before, running-room, running-next, running-last, running-acts, running-rows, running-times}
 use Rattle.run.proofs.rehearse.run_words.Goals as goal
 
 pub loop-i-init : goal.loop-i-init

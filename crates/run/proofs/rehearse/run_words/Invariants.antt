@@ -1,10 +1,6 @@
 -- `run::rehearse::run_words` meets its contract. The loop's invariant: i words have been given.
-use mathlib.Core.Path.{◌∙◌}
-use Prim.Native.Nat.{◌-◌, ◌<◌, ◌≤◌}
-use native.Mathlib.Omega.{arith}
-use Rattle.plan.specs.Rows.{end_row}
-use Rattle.run.proofs.Rehearsing.{Running, running-first, running-ends, running-after, running-before, running-room, running-next, running-last, running-acts, running-rows, running-times}
-use borrow.Author.Rules.{rules}
+use Prim.Native.Nat.{◌-◌}
+use Rattle.run.proofs.Rehearsing.{Running}
 use Rattle.run.proofs.rehearse.run_words.Given as goal
 
 abbrev pub invariant-loop-i : goal.invariant-loop-i

@@ -1,7 +1,6 @@
 -- `schedule::put::put_order` meets its contract.
 use mathlib.Core.Path.{sym, ◌∙◌}
 use native.Mathlib.Omega.{arith}
-use borrow.Author.Rules.{rules}
 use Rattle.schedule.proofs.OrderClocked.{first-near, ticks-are}
 use Rattle.schedule.proofs.OrderLaid.{fit-few, given-words, given-count, fit-not-three}
 use Rattle.schedule.proofs.put.put_order.Goals as goal

@@ -1,6 +1,5 @@
 -- `schedule::put::put_two` meets its contract.
 use Rattle.schedule.proofs.Laying.{laid-pair}
-use borrow.Author.Rules.{rules}
 use Rattle.schedule.proofs.put.put_two.Goals as goal
 
 pub returns : goal.returns

@@ -1,7 +1,6 @@
 -- `schedule::translate::copy_out` meets its contract.
-use Prim.Native.Nat.{◌-◌}
 use native.Mathlib.Omega.{arith}
-use Rattle.schedule.proofs.Copying.{Copying, copying-first, copying-next, copied}
+use Rattle.schedule.proofs.Copying.{copying-first, copying-next, copied}
 use Rattle.schedule.proofs.translate.copy_out.Goals as goal
 
 pub loop-i-init : goal.loop-i-init

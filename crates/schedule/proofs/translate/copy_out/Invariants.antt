@@ -1,7 +1,6 @@
 -- `schedule::translate::copy_out` meets its contract.
 use Prim.Native.Nat.{◌-◌}
-use native.Mathlib.Omega.{arith}
-use Rattle.schedule.proofs.Copying.{Copying, copying-first, copying-next, copied}
+use Rattle.schedule.proofs.Copying.{Copying}
 use Rattle.schedule.proofs.translate.copy_out.Given as goal
 
 abbrev pub invariant-loop-i : goal.invariant-loop-i

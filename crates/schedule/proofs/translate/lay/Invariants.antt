@@ -1,11 +1,7 @@
 -- `schedule::translate::lay` meets its contract. The loop's invariant: k orders have been judged and laid.
-use mathlib.Core.Path.{◌≡◌, sym, ◌∙◌}
 use Prim.Native.Nat.{◌-◌}
-use native.Mathlib.Omega.{arith}
 use lib.ListN.{length}
-use borrow.Author.Rules.{rules}
-use Rattle.plan.proofs.Bytes.{checked-fault, checked-order}
-use Rattle.schedule.proofs.OnePass.{Passing, passing-first, passing-many, passing-fault, passing-fits, passing-within, passing-early, passing-fit-words, passing-fit-ticks, passing-next, passing-end, passing-words, passing-ticks}
+use Rattle.schedule.proofs.OnePass.{Passing}
 use Rattle.schedule.proofs.translate.lay.Given as goal
 
 abbrev pub invariant-loop-at : goal.invariant-loop-at

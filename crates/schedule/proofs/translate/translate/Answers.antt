@@ -4,7 +4,6 @@ use mathlib.Core.Path.{refl, ap}
 use native.Mathlib.Omega.{arith}
 use Rattle.schedule.proofs.Translating.{way-unfit, way-near, way-header, way-refused, way-few, way-short-words, way-short-ticks, way-done}
 use Rattle.schedule.proofs.Numbered.{promised}
-use borrow.Author.Rules.{rules}
 use Rattle.schedule.proofs.translate.translate.Goals as goal
 
 pub returns-then-not-is_fit : goal.returns-then-not-is_fit

@@ -1,7 +1,6 @@
 -- `schedule::clock::Clock::first_tick` meets its contract.
 use borrow.Author.Tests.{ne_eqb}
 use Rattle.schedule.specs.Clock.{first_tick, tick_for}
-use borrow.Author.Rules.{rules}
 use Rattle.schedule.proofs.clock.Clock.first_tick.Goals as goal
 
 pub returns-then-code-eq-EXPOSE : goal.returns-then-code-eq-EXPOSE

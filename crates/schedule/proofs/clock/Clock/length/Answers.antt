@@ -1,6 +1,5 @@
 -- `schedule::clock::Clock::length` meets its contract.
 use Rattle.schedule.specs.Clock.{length_at}
-use borrow.Author.Rules.{rules}
 use Rattle.schedule.proofs.clock.Clock.length.Goals as goal
 
 pub returns : goal.returns

@@ -1,7 +1,6 @@
 -- `schedule::clock::Clock::of` meets its contract.
 use native.Mathlib.Nat.{zero-add}
 use Rattle.schedule.specs.Clock.{clock_of}
-use borrow.Author.Rules.{rules}
 use Rattle.schedule.proofs.clock.Clock.of.Goals as goal
 
 pub returns : goal.returns
