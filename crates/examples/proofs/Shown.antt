@@ -21,7 +21,7 @@ use Rattle.plan.specs.Stored.{field_at, order_at, fault_at, header_fault, orders
 use Rattle.head.specs.Busy.{busy_ticks, is_busy, at_rest}
 use Rattle.schedule.specs.Earliest.{is_taken, ready, delay_within, delay_of}
 use Rattle.schedule.specs.Schedule.{readied, span_of, sent, schedule_from}
-use Rattle.schedule.specs.Translate.{fit, schedule_of, answer_of_plan, translate_of, translated_number}
+use Rattle.schedule.specs.Translate.{fit, schedule_of, answer_of_plan, translate_of}
 use Rattle.examples.specs.Starred.{hold, table, after_words, answered, housekept, ir_housekept, ccd_housekept}
 
 pub starred : T (hold table)

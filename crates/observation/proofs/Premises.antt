@@ -19,7 +19,6 @@ use Rattle.head.specs.Apply.{after, act_of}
 use Rattle.head.specs.Busy.{busy_ticks, is_busy}
 use Rattle.head.specs.Word.{out_of_turn, on_word, on_decoded, answer_of}
 use Rattle.head.specs.Tick.{task_of, tick_of, passed}
-use Rattle.head.specs.declared.state.Settings.{Settings}
 use Rattle.head.specs.declared.state.FlagBits.{FlagBits}
 use Rattle.head.specs.declared.state.Head.{Head}
 use Rattle.status.specs.Status.{vis_flag_word, vis_flag_fields, composed}
@@ -27,7 +26,7 @@ use Rattle.blocks.specs.Ccd.{ccd_shown}
 use Rattle.due.specs.Due as due
 use Rattle.operators.specs.Passing.{is_operator, in_group, passes, passed_on}
 use Rattle.observation.specs.Run.{Given, nothing, by_ccd, by_infrared, by_controller, Moment, between, next, head_after}
-use Rattle.observation.specs.Observation.{ccd_registers, answer_to, flag_word_due, Seen, seen, seen_from, Observation, observed}
+use Rattle.observation.specs.Observation.{ccd_registers, answer_to, flag_word_due, seen, seen_from, Observation, observed}
 use Rattle.observation.specs.Premises.{not_infrared, without_infrared, busy_from, Alike}
 
 -- the runs are alike in all premises but the nth, and are told apart

@@ -1,22 +1,19 @@
 -- What a tick makes of the operator's view: the view that it finds, and whether the head is busy after it, decide.
 -- Assumes nothing.
-use mathlib.Core.Path.{◌≡◌, refl, sym, ap, ◌∙◌}
+use mathlib.Core.Path.{◌≡◌, refl, ap, ◌∙◌}
 use mathlib.Core.Bool.{Bool, true, false, cond, not, ◌&&◌}
-use mathlib.Core.Option.{Option, none, some}
-use Prim.Native.Nat.{ℕ, ◌-◌, ◌≤◌}
+use mathlib.Core.Option.{none, some}
+use Prim.Native.Nat.{ℕ, ◌-◌}
 use native.Mathlib.Omega.{arith}
-use borrow.Author.Tests.{eqb-true, eqb-false, eq-eqb, ne_eqb, lt-ltb, le-ltb}
+use borrow.Author.Tests.{eqb-true, eqb-false, lt-ltb}
 use lib.Dec.{eqb, ltb}
 use Rattle.words.specs.Fields.{on}
 use Rattle.words.specs.Kinds as kind
-use Rattle.head.specs.State.{no_flags, no_task}
+use Rattle.head.specs.State.{no_task}
 use Rattle.head.specs.Range.{in_range}
 use Rattle.head.specs.Busy.{busy_ticks, is_busy}
-use Rattle.head.specs.Flags.{shown}
-use Rattle.head.specs.Tick.{moved, task_of, passed, tick_of}
+use Rattle.head.specs.Tick.{task_of, passed, tick_of}
 use Rattle.head.specs.declared.state.Head.{Head}
-use Rattle.head.specs.declared.tick.Due.TheVariants.{Nothing, Blocks}
-use Rattle.head.specs.declared.tick.Ticked.{Ticked}
 use Rattle.head.proofs.Bounds.{Working, idle, acquiring, requesting, bounds}
 use Rattle.head.proofs.Keep.{word_keeps}
 use Rattle.status.specs.Status.{is_set, vis_flag_word}
@@ -27,7 +24,7 @@ use Rattle.operators.specs.Passing.{passes, passed_on}
 use Rattle.observation.specs.Run.{Given, nothing, by_ccd, by_infrared, by_controller, between}
 use Rattle.observation.specs.Observation.{flag_word_due}
 use Rattle.observation.proofs.Words.{passed_if}
-use Rattle.observation.proofs.View.{View, view, marking, busy_in, ends_in, view_ticked, flag_word_in}
+use Rattle.observation.proofs.View.{view, marking, ends_in, view_ticked, flag_word_in}
 
 -- whatever is given, the head stays in range
 passed-keeps : (s : Head) → in_range s ≡ true → (g w : ℕ) → in_range (passed_on s g w).head ≡ true

@@ -4,18 +4,15 @@
 use mathlib.Core.Path.{◌≡◌, refl, sym, ap, ◌∙◌}
 use mathlib.Core.Bool.{Bool, true}
 use mathlib.Core.List.{List, [], ◌∷◌, ◌++◌}
-use mathlib.Core.Option.{Option}
 use Prim.Native.Nat.{ℕ}
-use native.Mathlib.Omega.{arith}
 use lib.ListN.{get_or, drop}
 use Rattle.head.specs.Range.{in_range}
 use Rattle.head.specs.Busy.{is_busy}
 use Rattle.head.specs.Tick.{tick_of}
 use Rattle.head.specs.declared.state.Head.{Head}
 use Rattle.head.proofs.Keep.{tick-keeps}
-use Rattle.operators.specs.declared.Passing.{Passing}
 use Rattle.observation.specs.Run.{Moment, between, next, head_after}
-use Rattle.observation.specs.Observation.{ccd_registers, answer_to, flag_word_due, Seen, seen, seen_from, Observation, observed}
+use Rattle.observation.specs.Observation.{ccd_registers, flag_word_due, Seen, seen, seen_from, observed}
 use Rattle.observation.specs.Premises.{not_infrared, without_infrared, busy_from, Alike}
 use Rattle.observation.proofs.View.{View, view, registers_in, view_between, answer_in, view_ticked, flag_word_in}
 use Rattle.observation.proofs.Words.{between-view, answer-in}

@@ -23,7 +23,7 @@ use Rattle.due.specs.Due.{acquisition}
 use Rattle.operators.specs.Passing.{is_operator, in_group}
 use Rattle.operators.specs.declared.Passing.{Passing}
 use Rattle.operators.specs.declared.Passing.TheVariants.{NotPassed, Passed}
-use Rattle.observation.specs.Run.{Given, nothing, by_ccd, by_infrared, by_controller, Moment}
+use Rattle.observation.specs.Run.{Given, nothing, by_ccd, by_infrared, by_controller}
 
 -- the CCD registers, the VIS flags and the task
 pub record View : Type 0 where

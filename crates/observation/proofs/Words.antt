@@ -3,10 +3,10 @@
 -- Assumes nothing.
 use mathlib.Core.Path.{◌≡◌, refl, sym, ap, ◌∙◌}
 use mathlib.Core.Bool.{Bool, true, false, cond, not, ◌&&◌, ◌||◌, false≢true}
-use mathlib.Core.Option.{Option, some}
-use Prim.Native.Nat.{ℕ, ◌<◌}
+use mathlib.Core.Option.{some}
+use Prim.Native.Nat.{ℕ}
 use native.Mathlib.Omega.{arith}
-use borrow.Author.Tests.{eqb-true, eq-eqb, ne_eqb, lt-ltb}
+use borrow.Author.Tests.{eqb-true, eq-eqb, lt-ltb}
 use lib.Dec.{eqb, ltb}
 use Rattle.words.specs.Kinds as kind
 use Rattle.words.specs.Kinds.{group_of, rows}
@@ -22,16 +22,13 @@ use Rattle.head.specs.Flags.{time_both, time_ir, word_both, word_vis, word_ir, s
 use Rattle.head.specs.Apply.{after, settings_after, work_after, act_of}
 use Rattle.head.specs.Word.{ignored, out_of_turn, on_word, on_decoded, stop_word, answer_of}
 use Rattle.head.specs.declared.state.FlagBits.{FlagBits}
-use Rattle.head.specs.declared.state.Work.{Work}
 use Rattle.head.specs.declared.state.Head.{Head}
-use Rattle.head.specs.declared.word.Cause.TheVariants.{State, Busy, CoverMoving, UnknownWord, Range, Turn}
+use Rattle.head.specs.declared.word.Cause.TheVariants.{Busy, CoverMoving, Turn}
 use Rattle.head.specs.declared.word.Act.TheVariants.{None}
 use Rattle.head.specs.declared.word.Outcome.TheVariants.{Taken}
-use Rattle.head.specs.declared.word.Answered.{Answered}
 use Rattle.head.proofs.Bounds.{Working, idle, acquiring, requesting, bounds}
 use Rattle.operators.specs.Passing.{is_operator, in_group, passes, passed_on}
-use Rattle.operators.specs.declared.Passing.{Passing}
-use Rattle.operators.specs.declared.Passing.TheVariants.{StateRefused, NotPassed, Passed}
+use Rattle.operators.specs.declared.Passing.TheVariants.{NotPassed, Passed}
 use Rattle.operators.specs.declared.PassedOn.{PassedOn}
 use Rattle.observation.specs.Run.{Given, nothing, by_ccd, by_infrared, by_controller, between}
 use Rattle.observation.specs.Observation.{answer_to}
