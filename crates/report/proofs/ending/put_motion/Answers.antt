@@ -2,9 +2,15 @@
 use Rattle.layout.specs.Numbers.{ascii}
 use Rattle.report.specs.Ending.{mirror_template, cover_template}
 use Rattle.report.proofs.Parts.{written-motion}
-use borrow.Author.Rules.{rules}
 use Rattle.report.proofs.ending.put_motion.Goals as goal
 
 pub returns : goal.returns
 unfolding mirror_template cover_template ascii
-returns c = search (rules, written-motion)
+returns c =
+    written-motion
+    c.args.mirror
+    c.args.cover
+    c.bit-mirror_moves.ensures
+    c.put_template-after_mirror.ensures
+    c.bit-cover_moves.ensures
+    c.put_template.ensures
