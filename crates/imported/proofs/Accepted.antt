@@ -1,7 +1,7 @@
 -- The listing of every accepted plan, read and inspected: its words and ticks come back, every word is taken, no exposure has an incomplete
 -- mirror set, and none begins while something moves.
 -- Assumes nothing.
-use mathlib.Core.Path.{◌≡◌, refl, sym, ap, ◌∙◌}
+use mathlib.Core.Path.{◌≡◌, refl, ◌∙◌}
 use mathlib.Core.Bool.{Bool, true, false, not, ◌&&◌}
 use mathlib.Core.List.{List, [], ◌∷◌}
 use Prim.Native.Nat.{ℕ, ◌+◌, ◌≤◌}
@@ -11,8 +11,7 @@ use lib.Dec.{eqb, ltb}
 use lib.ListN.{length}
 use Rattle.head.specs.State.{power_on}
 use Rattle.head.specs.Busy.{at_rest}
-use Rattle.head.specs.Word.{answer_of}
-use Rattle.head.specs.Numbers.{outcome_number, is_cause}
+use Rattle.head.specs.Numbers.{is_cause}
 use Rattle.head.specs.List.{stepped}
 use Rattle.head.specs.declared.state.Head.{Head}
 use Rattle.orders.specs.declared.order.Order.{Order}
@@ -24,9 +23,7 @@ use Rattle.run.proofs.Ready.{power-on-fit, power-on-ready}
 use Rattle.layout.specs.Numbers.{bit}
 use Rattle.text.specs.Listing as Listing
 use Rattle.text.specs.Listing.{plan_text}
-use Rattle.import.specs.Read.{import_of, words_in, ticks_in}
 use Rattle.import.proofs.Round.{ReadsAs, plan-read}
-use Rattle.inspection.specs.Notes.{is_exposure}
 use Rattle.inspection.specs.Rows.{number_of}
 use Rattle.inspection.specs.Counts.{none, counted, counts_from, findings}
 use Rattle.inspection.specs.Inspection.{counts_of, inspection_text}

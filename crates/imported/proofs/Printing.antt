@@ -1,13 +1,12 @@
 -- The ways through `printed`, by the answer of `read_list`.
 -- Assumes nothing.
-use mathlib.Core.Path.{◌≡◌, refl, sym, ap, ◌∙◌}
-use mathlib.Core.Bool.{Bool, true, false, cond}
+use mathlib.Core.Path.{◌≡◌, sym, ap, ◌∙◌}
+use mathlib.Core.Bool.{true}
 use mathlib.Core.List.{List, [], ◌∷◌, map}
-use Prim.Native.Nat.{ℕ, ◌-◌, ◌≤◌, min}
-use native.Mathlib.Nat.{zero-add}
+use Prim.Native.Nat.{ℕ, ◌≤◌, min}
 use native.Mathlib.Omega.{arith}
 use lib.ListN.{length, take, length-map}
-use lib.Seq.{sets, length-sets, length-take-le}
+use lib.Seq.{length-take-le}
 use Rattle.timed.specs.List.{is_list}
 use Rattle.layout.specs.Numbers.{ascii}
 use Rattle.layout.specs.Written.{Written, Front}

@@ -1,10 +1,10 @@
 -- The report of every accepted plan: its acts and its settings at the end are those of the plan read without words, every word was taken,
 -- and it says so.
 -- Assumes nothing.
-use mathlib.Core.Path.{◌≡◌, refl, sym, ap, ◌∙◌}
-use mathlib.Core.Bool.{true, not}
+use mathlib.Core.Path.{◌≡◌, refl, sym, ◌∙◌}
+use mathlib.Core.Bool.{true}
 use mathlib.Core.List.{List, [], ◌∷◌}
-use Prim.Native.Nat.{ℕ, ◌+◌, ◌≤◌}
+use Prim.Native.Nat.{ℕ}
 use native.Mathlib.Omega.{arith}
 use lib.ListN.{length, length-map}
 use Rattle.head.specs.Busy.{rest_ticks}
@@ -21,13 +21,11 @@ use Rattle.orders.specs.Words.{items_of_all}
 use Rattle.schedule.specs.Schedule.{Timed, Schedule, schedule_from}
 use Rattle.schedule.specs.Translate.{fit, schedule_of, word_list, tick_list}
 use Rattle.schedule.proofs.Accepted.{accepted-schedule}
-use Rattle.run.specs.Run.{head_after, log_of}
-use Rattle.run.specs.Rehearse.{run_of}
+use Rattle.run.specs.Run.{head_after}
 use Rattle.run.specs.Listed.{NoCause}
 use Rattle.run.proofs.Whole.{run-whole}
 use Rattle.run.proofs.Comparing.{same_self}
 use Rattle.run.proofs.Equal.{compared-equal, record_is}
-use Rattle.layout.specs.Numbers.{bit}
 use Rattle.report.specs.Report.{rested, taken_in, text_of, report_text}
 use Rattle.report.proofs.Simulated.{simulated-zeros, lists-taken}
 

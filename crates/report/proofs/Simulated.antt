@@ -3,19 +3,17 @@
 use mathlib.Core.Path.{◌≡◌, refl, sym, ap, ◌∙◌}
 use mathlib.Core.Bool.{Bool}
 use mathlib.Core.List.{List, map}
-use Prim.Native.Nat.{ℕ, ◌+◌, ◌*◌, ◌≤◌, ◌<◌, min}
+use Prim.Native.Nat.{ℕ, ◌≤◌, min}
 use native.Mathlib.Nat.{zero-add}
 use native.Mathlib.Omega.{arith}
 use lib.ListN.{length, take, drop, replicate, length-map, length-take}
-use lib.Seq.{sets, take_at, length-take-le}
+use lib.Seq.{take_at}
 use Rattle.head.specs.Busy.{rest_ticks}
 use Rattle.head.specs.Tick.{ticks_of}
 use Rattle.head.specs.List.{numbers_listed, list_of}
 use Rattle.head.specs.declared.state.Head.{Head}
-use Rattle.head.specs.declared.list.ListAnswer.{ListAnswer}
 use Rattle.head.specs.declared.list.ListAnswer.TheVariants as listed
 use Rattle.head.specs.declared.list.Listed.{Listed}
-use Rattle.plan.specs.Reading.{request}
 use Rattle.plan.specs.Read.{read_record, at_front}
 use Rattle.plan.specs.Rows.{record_of}
 use Rattle.plan.specs.Stored.{orders, plan_of, orders_in}
@@ -36,8 +34,6 @@ use Rattle.layout.specs.Written.{Written}
 use Rattle.report.specs.Read.{entries_in}
 use Rattle.report.specs.Lines.{order_lines}
 use Rattle.report.specs.Report.{rested, taken_in, text_of, report_text, reported_by, reported_of, report_after, reported_number, reported_place}
-use Rattle.report.specs.declared.ending.Outcome.{Outcome}
-use Rattle.report.specs.declared.report.Start.{Start}
 use Rattle.report.specs.declared.report.Reported.{Reported}
 use Rattle.report.proofs.Logs.{acts_in, log-acts, record-entry, lines-alike}
 

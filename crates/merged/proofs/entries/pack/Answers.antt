@@ -1,7 +1,5 @@
 -- `merged::entries::pack` meets its contract. The loop's invariant: the first i entries are packed.
-use Prim.Native.Nat.{◌-◌}
-use lib.ListN.{length}
-use Rattle.merged.proofs.Packing.{Packing, packing-first, word-there, place-there, packing-next, packed}
+use Rattle.merged.proofs.Packing.{packing-first, word-there, place-there, packing-next, packed}
 use borrow.Author.Rules.{rules}
 use Rattle.merged.proofs.entries.pack.Goals as goal
 

@@ -1,8 +1,7 @@
 -- `merged::entries::pack` meets its contract. The loop's invariant: the first i entries are packed.
 use Prim.Native.Nat.{◌-◌}
 use lib.ListN.{length}
-use Rattle.merged.proofs.Packing.{Packing, packing-first, word-there, place-there, packing-next, packed}
-use borrow.Author.Rules.{rules}
+use Rattle.merged.proofs.Packing.{Packing}
 use Rattle.merged.proofs.entries.pack.Given as goal
 
 abbrev pub invariant-loop-i : goal.invariant-loop-i

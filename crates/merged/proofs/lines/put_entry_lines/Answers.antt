@@ -1,7 +1,5 @@
 -- `merged::lines::put_entry_lines` meets its contract. The loop's invariant: the lines from the ith on are left.
-use Prim.Native.Nat.{◌-◌}
-use lib.ListN.{length}
-use Rattle.merged.proofs.LineByLine.{LinesLeft, lines-left-first, lines-left-next, lines-written}
+use Rattle.merged.proofs.LineByLine.{lines-left-first, lines-left-next, lines-written}
 use borrow.Author.Rules.{rules}
 use Rattle.merged.proofs.lines.put_entry_lines.Goals as goal
 

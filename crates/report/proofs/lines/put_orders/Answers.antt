@@ -1,9 +1,6 @@
 -- `report::lines::put_orders` meets its contract. The loop's invariant: k orders have been passed.
-use Prim.Native.Nat.{◌-◌}
 use native.Mathlib.Omega.{arith}
-use lib.ListN.{length}
-use Rattle.plan.specs.Stored.{plan_of, orders_in}
-use Rattle.report.proofs.Walked.{Walked, walked-first, acts-few, order_is, order-ends, words-few, row-long, act-one, walked_next, walked-done}
+use Rattle.report.proofs.Walked.{walked-first, order_is, order-ends, words-few, act-one, walked_next, walked-done}
 use borrow.Author.Rules.{rules}
 use Rattle.report.proofs.lines.put_orders.Goals as goal
 

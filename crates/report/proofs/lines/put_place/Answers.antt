@@ -1,6 +1,6 @@
 -- `report::lines::put_place` meets its contract.
 use Rattle.layout.specs.Numbers.{ascii}
-use Rattle.report.specs.Lines.{place_template, place_text}
+use Rattle.report.specs.Lines.{place_template}
 use Rattle.report.proofs.Orders.{written-place}
 use borrow.Author.Rules.{rules}
 use Rattle.report.proofs.lines.put_place.Goals as goal

@@ -1,6 +1,5 @@
 -- `report::opening::is_power_on` meets its contract.
 use mathlib.Core.Path.{◌∙◌}
-use borrow.Author.Rules.{rules}
 use Rattle.report.proofs.opening.is_power_on.Goals as goal
 
 pub returns : goal.returns

@@ -1,6 +1,5 @@
 -- `report::opening::same_states` meets its contract. The loop's invariant: the first i numbers are the same.
-use Prim.Native.Nat.{◌-◌}
-use Rattle.report.proofs.States.{Alike, alike-first, alike_next, alike-differ, alike_all}
+use Rattle.report.proofs.States.{alike-first, alike_next, alike-differ, alike_all}
 use borrow.Author.Rules.{rules}
 use Rattle.report.proofs.opening.same_states.Goals as goal
 

@@ -1,6 +1,5 @@
 -- `report::printed::report_from_power_on` meets its contract.
 use Rattle.report.proofs.Printing.{told-on}
-use borrow.Author.Rules.{rules}
 use Rattle.report.proofs.printed.report_from_power_on.Goals as goal
 
 pub returns : goal.returns

@@ -1,6 +1,5 @@
 -- `report::refusal::order_index` meets its contract. The loop's invariant: no order before this one is the one that is looked for.
-use Prim.Native.Nat.{◌-◌}
-use Rattle.report.proofs.Indexing.{Counting, counting-first, counting-found, counting-next, counting-last}
+use Rattle.report.proofs.Indexing.{counting-first, counting-found, counting-next, counting-last}
 use borrow.Author.Rules.{rules}
 use Rattle.report.proofs.refusal.order_index.Goals as goal
 

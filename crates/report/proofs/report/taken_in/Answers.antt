@@ -1,7 +1,5 @@
 -- `report::report::taken_in` meets its contract. The loop's invariant: the first i outcomes have been counted.
-use Prim.Native.Nat.{◌-◌}
-use lib.ListN.{length}
-use Rattle.report.proofs.Taken.{Counted, counted-first, taken-few, counted_next, counted-all}
+use Rattle.report.proofs.Taken.{counted-first, counted_next, counted-all}
 use borrow.Author.Rules.{rules}
 use Rattle.report.proofs.report.taken_in.Goals as goal
 

@@ -1,8 +1,7 @@
 -- `report::report::taken_in` meets its contract. The loop's invariant: the first i outcomes have been counted.
 use Prim.Native.Nat.{◌-◌}
 use lib.ListN.{length}
-use Rattle.report.proofs.Taken.{Counted, counted-first, taken-few, counted_next, counted-all}
-use borrow.Author.Rules.{rules}
+use Rattle.report.proofs.Taken.{Counted}
 use Rattle.report.proofs.report.taken_in.Given as goal
 
 abbrev pub invariant-loop-i : goal.invariant-loop-i

@@ -2,7 +2,6 @@
 use mathlib.Core.Path.{refl}
 use native.Mathlib.Omega.{arith}
 use Rattle.report.proofs.Taken.{given-taken, prefix-long}
-use borrow.Author.Rules.{rules}
 use Rattle.report.proofs.report.taken_words.Goals as goal
 
 pub slice_bounds-taken_in-end : goal.slice_bounds-taken_in-end
