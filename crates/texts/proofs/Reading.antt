@@ -13,13 +13,13 @@ use Rattle.layout.specs.Written.{Written, Front}
 use Rattle.layout.proofs.Writing.{written-front, front-text}
 use Rattle.head.specs.List.{list_answer_number}
 use Rattle.interface.specs.Plans.{packed}
-use Rattle.import.specs.Read.{most_bytes, import_of, with_room, import_into, import_number, import_after, words_in, ticks_in}
+use Rattle.import.specs.Read.{import_of, with_room, import_into, import_number, import_after, words_in, ticks_in}
 use Rattle.import.specs.declared.read.Import.{Import}
 use Rattle.import.specs.declared.read.Import.TheVariants.{Done, Refused, Short}
 use Rattle.import.proofs.Lists.{import-list}
 use Rattle.import.proofs.Places.{import-place, import-not-short}
 use Rattle.inspection.specs.Counts.{findings}
-use Rattle.inspection.specs.Inspection.{counts_of, inspection_text, inspected_of, inspection_after, inspected_number}
+use Rattle.inspection.specs.Inspection.{counts_of, inspection_text, inspected_of, inspection_after}
 use Rattle.inspection.specs.declared.counts.Counts.{Counts}
 use Rattle.inspection.specs.declared.inspection.Inspected.{Inspected}
 use Rattle.inspection.specs.declared.inspection.Inspected.TheVariants as inspected
