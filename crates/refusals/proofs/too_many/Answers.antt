@@ -1,9 +1,6 @@
 -- `refusals::too_many` is safe and ends: the plan keeps its length.
-use mathlib.Core.Path.{◌≡◌}
-use Prim.Native.Nat.{◌-◌}
 use native.Mathlib.Omega.{arith}
-use borrow.Author.Rules.{rules}
-use lib.ListN.{length, length-set}
+use lib.ListN.{length-set}
 use Rattle.refusals.proofs.too_many.Goals as goal
 
 pub bounds-plan-at : goal.bounds-plan-at

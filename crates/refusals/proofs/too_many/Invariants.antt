@@ -1,9 +1,7 @@
 -- `refusals::too_many` is safe and ends: the plan keeps its length.
 use mathlib.Core.Path.{◌≡◌}
 use Prim.Native.Nat.{◌-◌}
-use native.Mathlib.Omega.{arith}
-use borrow.Author.Rules.{rules}
-use lib.ListN.{length, length-set}
+use lib.ListN.{length}
 use Rattle.refusals.proofs.too_many.Given as goal
 
 abbrev pub invariant-loop-at : goal.invariant-loop-at
