@@ -1,27 +1,25 @@
 -- The inspection of every list has room in 262,144 bytes: of alternatives the longest bounds a text.
 -- Assumes nothing.
 use mathlib.Core.Path.{◌≡◌, refl}
-use mathlib.Core.Bool.{Bool, true, false, cond, not, ◌&&◌}
+use mathlib.Core.Bool.{Bool, true, false, cond}
 use mathlib.Core.List.{List, [], ◌∷◌, ◌++◌}
-use Prim.Native.Nat.{ℕ, ◌+◌, ◌*◌, ◌≤◌, max}
-use native.Mathlib.Nat.{suc-mul, mul-le-mul_right, le_trans}
+use Prim.Native.Nat.{ℕ, ◌+◌, ◌*◌, ◌≤◌}
+use native.Mathlib.Nat.{suc-mul, mul-le-mul_right}
 use native.Mathlib.Omega.{arith}
 use borrow.Author.Tests.{leb-true}
-use lib.Dec.{eqb, ltb}
+use lib.Dec.{eqb}
 use lib.ListN.{length, length-append}
 use Rattle.words.specs.Kinds as kind
 use Rattle.words.specs.Kinds.{identifier, bits_of, kind_of}
 use Rattle.words.specs.Codec.{finding_number}
 use Rattle.words.specs.Fields.{direction, wave, sensors, steps}
-use Rattle.timed.specs.List.{most_words, is_list}
+use Rattle.timed.specs.List.{is_list}
 use Rattle.timed.proofs.Rising.{list-few}
 use Rattle.head.specs.State.{power_on}
 use Rattle.head.specs.Busy.{busy_ticks}
 use Rattle.head.specs.Word.{answer_of}
 use Rattle.head.specs.Numbers.{is_cause}
 use Rattle.head.specs.List.{stepped, head_listed}
-use Rattle.head.specs.declared.state.Settings.{Settings}
-use Rattle.head.specs.declared.state.Motion.{Motion}
 use Rattle.head.specs.declared.state.Head.{Head}
 use Rattle.layout.specs.Numbers.{bit, ascii, hex_of}
 use Rattle.layout.specs.Template.{layout}
@@ -34,7 +32,6 @@ use Rattle.inspection.specs.Meaning.{data_template, cover_template, unknown_temp
 use Rattle.inspection.specs.Notes as note
 use Rattle.inspection.specs.Notes.{is_exposure, cause_template, cause_shown, cause_text, effect_template, effect_shown, effect_text, stop_template, stopped_task, stop_text, set_template, set_case, told_received, set_text, cover_moves_template, motion_shown, motion_text, effects_text, notes_text}
 use Rattle.inspection.specs.Rows.{place_template, outcome_template, tick_text, outcome_text, place_text, saying_text, number_of, word_text, words_text}
-use Rattle.inspection.specs.Counts.{counts_from}
 use Rattle.inspection.specs.Inspection.{title_template, settings_template, counts_template, title_text, left_text, last_settings, counts_text, end_text, counts_of, inspection_text}
 use Rattle.inspection.specs.declared.counts.Counts.{Counts}
 

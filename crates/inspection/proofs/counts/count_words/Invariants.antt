@@ -1,8 +1,7 @@
 -- `inspection::counts::count_words` meets its contract. The loop's invariant: the words from the ith on are left.
 use Prim.Native.Nat.{◌-◌}
 use lib.ListN.{length}
-use Rattle.inspection.proofs.Counting.{Counting, counting-first, ignored-few, exposures-few, incomplete-few, moving-few, counting-next, counts_all}
-use borrow.Author.Rules.{rules}
+use Rattle.inspection.proofs.Counting.{Counting}
 use Rattle.inspection.proofs.counts.count_words.Given as goal
 
 abbrev pub invariant-loop-i : goal.invariant-loop-i

@@ -8,9 +8,9 @@ pub returns : goal.returns
 unfolding mirror_template cover_moves_template ascii
 returns c =
     written-motion
-    _
-    _
-    _
+    c.args.number
+    c.args.mirror
+    c.args.cover
     c.is_exposure-exposes.ensures
     c.bit-mirror_moves.ensures
     c.put_template-after_mirror.ensures

@@ -1,8 +1,7 @@
 -- `inspection::rows::put_words` meets its contract. The loop's invariant: the words from the ith on are left.
 use Prim.Native.Nat.{◌-◌}
 use lib.ListN.{length}
-use Rattle.inspection.proofs.Wording.{Wording, wording-first, wording-ticks, wording-line, wording-next, worded}
-use borrow.Author.Rules.{rules}
+use Rattle.inspection.proofs.Wording.{Wording}
 use Rattle.inspection.proofs.rows.put_words.Given as goal
 
 abbrev pub invariant-loop-i : goal.invariant-loop-i
