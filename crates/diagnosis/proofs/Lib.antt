@@ -1,3 +1,2 @@
 pub mod Ruled
 pub mod Truth
-pub mod Ways

@@ -15,6 +15,7 @@ use Rattle.head.specs.declared.word.Outcome.{Outcome}
 use Rattle.head.specs.declared.word.Outcome.TheVariants as outcome
 use Rattle.head.proofs.Numbered.{word_number}
 use Rattle.diagnosis.specs.Diagnosis.{by_cause, by_outcome, diagnosis_of, diagnosis_number, stopped_number}
+use Rattle.diagnosis.specs.declared.Diagnosis.{Diagnosis}
 use Rattle.diagnosis.specs.Truth.{named, applied}
 
 module _ (s : Head) (w : ℕ) where
@@ -49,6 +50,10 @@ module _ (s : Head) (w : ℕ) where
   outcome-number (outcome.Ignored Range) = refl
   outcome-number (outcome.Ignored Turn) = refl
 
-  pub diagnosis-number : w < 65536 → diagnosis_number (diagnosis_of s w) ≡ stopped_number (answer_number s w)
+  diagnosis-number : w < 65536 → diagnosis_number (diagnosis_of s w) ≡ stopped_number (answer_number s w)
   unfolding diagnosis_of
   diagnosis-number h = rw (← word_number s w h) (outcome-number (answer_of s w).outcome)
+
+  -- and so for what the code finds
+  pub found_number : w < 65536 → (d : Diagnosis) → d ≡ diagnosis_of s w → diagnosis_number d ≡ stopped_number (answer_number s w)
+  found_number h d is = rw is (diagnosis-number h)

@@ -9,9 +9,11 @@ use borrow.Author.Tests.{lt-ltb, le-ltb, ltb-true, eqb-true, ne_eqb}
 use lib.Dec.{eqb, ltb}
 use Rattle.words.specs.Kinds as kind
 use Rattle.words.specs.Kinds.{identifier, bits_of, rows, least, greatest, kind_of, kinds, allowed}
-use Rattle.words.specs.Codec.{decode_of, judged, encode_of, word_of}
-use Rattle.words.specs.declared.Decoded.{Decoded}
-use Rattle.words.specs.declared.Decoded.TheVariants as decoded
+use Rattle.std.specs.Prelude.{Result, Ok, Err}
+use Rattle.words.specs.Codec.{word, decode_of, judged, encode_of, word_of}
+use Rattle.words.specs.declared.Word.{Word}
+use Rattle.words.specs.declared.DecodeError.{DecodeError}
+use Rattle.words.specs.declared.DecodeError.TheVariants as decode_error
 use Rattle.words.proofs.Codec.{decode-read, encode-decode}
 use Rattle.head.specs.Range.{in_range}
 use Rattle.head.specs.Busy.{busy_ticks, is_busy}
@@ -64,10 +66,10 @@ module _ (s : Head) (ranged : in_range s ≡ true) where
     stays-idle : (m : ℕ) → is_busy (ticks_of m s) ≡ false
     stays-idle m = idle_then m (let e = idle-none s free in omega arith)
 
-    module _ (w : ℕ) (word : decode_of w ≡ decoded.Word kind.cover (bits_of w)) where
+    module _ (w : ℕ) (found : decode_of w ≡ Ok (word kind.cover (bits_of w))) where
       cover-answer : (m : ℕ) → answer_of (ticks_of m s) w ≡ on_word (ticks_of m s) kind.cover (bits_of w)
       unfolding on_decoded
-      cover-answer m = idle-answer (ticks_of m s) w (ticks-keep m s ranged) (stays-idle m) ∙ rw word
+      cover-answer m = idle-answer (ticks_of m s) w (ticks-keep m s ranged) (stays-idle m) ∙ rw found
 
       pub cover-for : ltb 0 s.motion.cover ≡ true → CoverMovesFor s w s.motion.cover
       unfolding cover_moves on_word out_of_turn act_of
@@ -212,14 +214,14 @@ unfolding out_of_turn
 stop-in-turn n k e turn = false≢true (rw e at turn)
 
 -- what is out of range is of the kind of its identifier
-range-kind : (w k : ℕ) → decode_of w ≡ decoded.OutOfRange k → decode_of w ≡ decoded.OutOfRange (kind_of (identifier w))
+range-kind : (w k : ℕ) → decode_of w ≡ Err (decode_error.OutOfRange k) → decode_of w ≡ Err (decode_error.OutOfRange (kind_of (identifier w)))
 unfolding decode_of judged
 range-kind w k e = go (ltb j kinds) refl (allowed j (bits_of w)) refl
   where
     j : ℕ
     j = kind_of (identifier w)
 
-    go : (x : Bool) → ltb j kinds ≡ x → (y : Bool) → allowed j (bits_of w) ≡ y → decode_of w ≡ decoded.OutOfRange j
+    go : (x : Bool) → ltb j kinds ≡ x → (y : Bool) → allowed j (bits_of w) ≡ y → decode_of w ≡ Err (decode_error.OutOfRange j)
     go true p false q = rw (p, q)
     go true p true q = let is = rw (p, q) at e in let z : ◌≡◌ {A = ℕ} 0 1 = cc in absurd (omega arith)
     go false p y q = let is = rw p at e in let z : ◌≡◌ {A = ℕ} 0 1 = cc in absurd (omega arith)
@@ -249,34 +251,34 @@ module _ (s : Head) (w : ℕ) (h : w < 65536) where
       unfolding answer_of
       decided = rw (ranged, free)
 
-      at-unknown : decode_of w ≡ decoded.Unknown → Says s w (diagnosis_of s w)
+      at-unknown : decode_of w ≡ Err decode_error.Unknown → Says s w (diagnosis_of s w)
       unfolding on_decoded by_outcome by_cause Says
       at-unknown e = at (outcome.Ignored UnknownWord) (rw (decided, e)) (record { given = refl; unknown = e })
 
-      at-range : (k : ℕ) → decode_of w ≡ decoded.OutOfRange k → Says s w (diagnosis_of s w)
+      at-range : (k : ℕ) → decode_of w ≡ Err (decode_error.OutOfRange k) → Says s w (diagnosis_of s w)
       unfolding on_decoded by_outcome by_cause Says
       at-range k e = at (outcome.Ignored Range) (rw (decided, e)) (record { given = refl; range = range-kind w k e })
 
-      module _ (k b : ℕ) (word : decode_of w ≡ decoded.Word k b) where
+      module _ (k b : ℕ) (found : decode_of w ≡ Ok (word k b)) where
         -- the head is idle, since the word is not STOP's
         idle : eqb k kind.stop ≡ false → is_busy s ≡ false
         idle other = go (is_busy s) refl
           where
             go : (x : Bool) → is_busy s ≡ x → is_busy s ≡ false
             go false p = p
-            go true p = absurd (true≢false (rw (p, stop-alone w k b h word, other) at free))
+            go true p = absurd (true≢false (rw (p, stop-alone w k b h found, other) at free))
 
         at-cover : eqb k kind.cover ≡ true → ltb 0 s.motion.cover ≡ true → Says s w (diagnosis_of s w)
         unfolding on_decoded on_word by_outcome by_cause Says
         at-cover p q =
             let is = eqb-true k kind.cover p in
-            at (outcome.Ignored CoverMoving) (rw (decided, word, p, q))
-            (cover-for s ranged (idle (rw is)) w (rw (is, (decode-read w k b word).bits) at word) q)
+            at (outcome.Ignored CoverMoving) (rw (decided, found, p, q))
+            (cover-for s ranged (idle (rw is)) w (rw (is, (decode-read w k b found).bits) at found) q)
 
         module _ (still : (eqb k kind.cover && ltb 0 s.motion.cover) ≡ false) where
           at_turn : out_of_turn s.begun.count k ≡ true → Says s w (diagnosis_of s w)
           unfolding on_decoded on_word by_outcome by_cause Says
-          at_turn q = at (outcome.Ignored Turn) (rw (decided, word, still, q)) (due-for s ranged (idle (no_stop (eqb k kind.stop) refl)))
+          at_turn q = at (outcome.Ignored Turn) (rw (decided, found, still, q)) (due-for s ranged (idle (no_stop (eqb k kind.stop) refl)))
             where
               no_stop : (x : Bool) → eqb k kind.stop ≡ x → eqb k kind.stop ≡ false
               no_stop false p = p
@@ -285,13 +287,13 @@ module _ (s : Head) (w : ℕ) (h : w < 65536) where
           at-taken : out_of_turn s.begun.count k ≡ false → Says s w (diagnosis_of s w)
           unfolding on_decoded on_word by_outcome Says applied
           at-taken q =
-              let e : (answer_of s w).outcome ≡ outcome.Taken (act_of k b) = rw (decided, word, still, q) in
+              let e : (answer_of s w).outcome ≡ outcome.Taken (act_of k b) = rw (decided, found, still, q) in
               at (outcome.Taken (act_of k b)) e (rw e)
 
 pub diagnosis-true : (s : Head) (w : ℕ) → w < 65536 → Says s w (diagnosis_of s w)
 diagnosis-true s w h = go (in_range s) refl (is_busy s && not (eqb w stop_word)) refl (decode_of w) refl
   where
-    on-word : in_range s ≡ true → (is_busy s && not (eqb w stop_word)) ≡ false → (k b : ℕ) → decode_of w ≡ decoded.Word k b
+    on-word : in_range s ≡ true → (is_busy s && not (eqb w stop_word)) ≡ false → (k b : ℕ) → decode_of w ≡ Ok (word k b)
         → (x : Bool) → eqb k kind.cover ≡ x → (y : Bool) → ltb 0 s.motion.cover ≡ y → (z : Bool) → out_of_turn s.begun.count k ≡ z
         → Says s w (diagnosis_of s w)
     on-word p q k b e true c true m z t = at-cover s w h p q k b e c m
@@ -300,11 +302,11 @@ diagnosis-true s w h = go (in_range s) refl (is_busy s && not (eqb w stop_word))
     on-word p q k b e false c y m true t = at_turn s w h p q k b e (rw c) t
     on-word p q k b e false c y m false t = at-taken s w h p q k b e (rw c) t
 
-    go : (x : Bool) → in_range s ≡ x → (y : Bool) → (is_busy s && not (eqb w stop_word)) ≡ y → (d : Decoded) → decode_of w ≡ d
+    go : (x : Bool) → in_range s ≡ x → (y : Bool) → (is_busy s && not (eqb w stop_word)) ≡ y → (d : Result Word DecodeError) → decode_of w ≡ d
         → Says s w (diagnosis_of s w)
     go false p y q d e = at-state s w h p
     go true p true q d e = at-busy s w h p q
-    go true p false q decoded.Unknown e = at-unknown s w h p q e
-    go true p false q (decoded.OutOfRange k) e = at-range s w h p q k e
-    go true p false q (decoded.Word k b) e =
-        on-word p q k b e (eqb k kind.cover) refl (ltb 0 s.motion.cover) refl (out_of_turn s.begun.count k) refl
+    go true p false q (Err decode_error.Unknown) e = at-unknown s w h p q e
+    go true p false q (Err (decode_error.OutOfRange k)) e = at-range s w h p q k e
+    go true p false q (Ok v) e =
+        on-word p q v.kind v.bits e (eqb v.kind kind.cover) refl (ltb 0 s.motion.cover) refl (out_of_turn s.begun.count v.kind) refl

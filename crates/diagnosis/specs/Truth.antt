@@ -1,11 +1,11 @@
 -- Document 02, request P7: "What it says must be true of that state, and it names the rule the head itself applied; for a taken word it
 -- says that it was taken." Said in the head's own terms: its answers (`answer_of`), its ticks (`ticks_of`), and whether it is busy.
 -- Assumes nothing.
-use Rattle.std.specs.Prelude.{◌≡◌, Bool, true, false, ℕ, ◌-◌, ◌<◌, ◌≤◌, ltb}
+use Rattle.std.specs.Prelude.{◌≡◌, Bool, true, false, ℕ, ◌-◌, ◌<◌, ◌≤◌, ltb, Err}
 use Rattle.words.specs.Kinds as kind
 use Rattle.words.specs.Kinds.{bits_of, allowed}
 use Rattle.words.specs.Codec.{decode_of, word_of}
-use Rattle.words.specs.declared.Decoded.TheVariants as decoded
+use Rattle.words.specs.declared.DecodeError.TheVariants as decode_error
 use Rattle.head.specs.Range.{in_range}
 use Rattle.head.specs.Busy.{is_busy}
 use Rattle.head.specs.Flags.{mirror_word}
@@ -60,12 +60,12 @@ pub record CoverMovesFor (s : Head) (w n : ℕ) : Type 0 where
 -- The word named is the word given, and no kind has its identifier.
 pub record NoKind (w v : ℕ) : Type 0 where
   pub given : v ≡ w
-  pub unknown : decode_of w ≡ decoded.Unknown
+  pub unknown : decode_of w ≡ Err decode_error.Unknown
 
 -- The word named is the word given, it is of the kind named, and its data are out of that kind's range.
 pub record NotAllowed (w v k : ℕ) : Type 0 where
   pub given : v ≡ w
-  pub range : decode_of w ≡ decoded.OutOfRange k
+  pub range : decode_of w ≡ Err (decode_error.OutOfRange k)
 
 -- The mirror word that was due: a word of its kind, with any allowed data, would have been taken in that state. Of the other mirror words
 -- none would, but for SIN M, which always begins afresh.

@@ -11,7 +11,8 @@ use head::word::{Cause, Outcome};
 use words::kind_of;
 use words::kinds::{COS_L, COS_M, SIN_L, SIN_M};
 
-#[derive(Clone, Copy)]
+// Seven answers of one rank, which one text explains each, so an enum of its own and no `Result`.
+#[derive(Clone, Copy, Debug, PartialEq, Eq)]
 pub enum Diagnosis {
     // The word is taken.
     Taken,
@@ -31,6 +32,7 @@ pub enum Diagnosis {
 
 impl Diagnosis {
     // 0 for a word that is taken, else document 01's number of the cause.
+    #[tactic(auto, unfolding(crate::specs::Diagnosis::diagnosis_number, head::specs::Numbers::cause_number))]
     pub fn number(self) -> u8
         ensures { result ≡ diagnosis_number self }
     {
@@ -47,6 +49,7 @@ impl Diagnosis {
 }
 
 // The kind of the mirror word that is due after so many words of a set.
+#[tactic(auto, unfolding(crate::specs::Diagnosis::due_after))]
 fn due_after(count: u16) -> u8
     ensures { result ≡ due_after count }
 {
@@ -59,6 +62,7 @@ fn due_after(count: u16) -> u8
 }
 
 // What a cause says of the state and the word.
+#[tactic(auto, unfolding(crate::specs::Diagnosis::by_cause))]
 fn by_cause(head: Head, word: u16, cause: Cause) -> Diagnosis
     ensures { result ≡ by_cause head word cause }
 {
@@ -77,13 +81,12 @@ fn by_cause(head: Head, word: u16, cause: Cause) -> Diagnosis
 }
 
 // What becomes of a word that a head in this state gets, and why.
+#[tactic(auto, using(crate::proofs::Ruled::found_number), unfolding(crate::specs::Diagnosis::diagnosis_of, crate::specs::Diagnosis::by_outcome))]
 pub fn diagnose(head: Head, word: u16) -> Diagnosis
     ensures value { result ≡ diagnosis_of head word }
     ensures result_value { diagnosis_number result ≡ stopped_number (answer_number head word) }
 {
-    let answered = head.word(word);
-    let outcome = answered.outcome;
-    match outcome {
+    match head.word(word).outcome {
         Outcome::Taken(_) => Diagnosis::Taken,
         Outcome::Ignored(cause) => by_cause(head, word, cause),
     }

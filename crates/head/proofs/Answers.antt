@@ -7,9 +7,11 @@ use Prim.Native.Nat.{ℕ}
 use native.Mathlib.Omega.{arith}
 use lib.Dec.{eqb, ltb}
 use Rattle.words.specs.Kinds as kind
-use Rattle.words.specs.Codec.{decode_of}
-use Rattle.words.specs.declared.Decoded.{Decoded}
-use Rattle.words.specs.declared.Decoded.TheVariants.{Word, Unknown, OutOfRange}
+use Rattle.std.specs.Prelude.{Result, Ok, Err}
+use Rattle.words.specs.Codec.{word, decode_of}
+use Rattle.words.specs.declared.Word.{Word}
+use Rattle.words.specs.declared.DecodeError.{DecodeError}
+use Rattle.words.specs.declared.DecodeError.TheVariants.{Unknown, OutOfRange}
 use Rattle.head.specs.Range.{in_range}
 use Rattle.head.specs.Busy.{is_busy}
 use Rattle.head.specs.State.{none_begun}
@@ -45,7 +47,7 @@ pub data Kept (old : Begun) : Begun → Type 0 where
 pub record Passed (s : Head) (w k b : ℕ) : Type 0 where
   pub ranged : in_range s ≡ true
   pub free : (is_busy s && not (eqb w stop_word)) ≡ false
-  pub decoded : decode_of w ≡ Word k b
+  pub decoded : decode_of w ≡ Ok (word k b)
   pub still : (eqb k kind.cover && ltb 0 s.motion.cover) ≡ false
   pub turn : out_of_turn s.begun.count k ≡ false
 
@@ -62,7 +64,7 @@ module _ (s : Head) (w : ℕ) where
   kept false = same
 
   module _ (ranged : in_range s ≡ true) (free : (is_busy s && not (eqb w stop_word)) ≡ false) where
-    on-word : (k b : ℕ) → decode_of w ≡ Word k b → Answer s w (on_word s k b)
+    on-word : (k b : ℕ) → decode_of w ≡ Ok (word k b) → Answer s w (on_word s k b)
     unfolding on_word
     on-word k b e = go (eqb k kind.cover && ltb 0 s.motion.cover) refl (out_of_turn s.begun.count k) refl
       where
@@ -74,11 +76,11 @@ module _ (s : Head) (w : ℕ) where
         go false p true q = ignoring (scanned s.flags) none_begun Turn (λ h. omega arith) dropped
         go false p false q = taking k b (record { ranged = ranged; free = free; decoded = e; still = p; turn = q })
 
-    on-decoded : (d : Decoded) → decode_of w ≡ d → Answer s w (on_decoded s d)
+    on-decoded : (d : Result Word DecodeError) → decode_of w ≡ d → Answer s w (on_decoded s d)
     unfolding on_decoded
-    on-decoded (Word k b) e = on-word k b e
-    on-decoded Unknown e = ignoring (word_both s.flags) s.begun UnknownWord (λ h. omega arith) same
-    on-decoded (OutOfRange k) e =
+    on-decoded (Ok v) e = on-word v.kind v.bits e
+    on-decoded (Err Unknown) e = ignoring (word_both s.flags) s.begun UnknownWord (λ h. omega arith) same
+    on-decoded (Err (OutOfRange k)) e =
         ignoring (out_of_range_flags k s.flags) (cond (mirror_word k) none_begun s.begun) Range (out_of_range k s.flags) (kept (mirror_word k))
 
   pub answer : Answer s w (answer_of s w)

@@ -3,10 +3,12 @@
 use mathlib.Core.Path.{◌≡◌, refl}
 use mathlib.Core.Bool.{Bool, true, false, cond, not, ◌&&◌, ◌||◌}
 use mathlib.Core.List.{List, [], ◌∷◌}
-use Prim.Native.Nat.{ℕ, ◌*◌, ◌<◌, ◌≤◌}
+use Prim.Native.Nat.{ℕ, ◌+◌, ◌*◌, ◌<◌, ◌≤◌}
 use native.Mathlib.Omega.{arith}
 use borrow.Author.Tests.{leb-true, leb-false, le-leb, lt-leb, eqb-true}
 use lib.Dec.{leb, eqb, leb-zero}
+use mir.Syntax.{w16}
+use mir.Val.{Fits}
 use Rattle.words.specs.Kinds as kind
 use Rattle.words.specs.Fields.{steps}
 use Rattle.words.specs.Kinds.{rows, least, greatest, allowed, most_steps}
@@ -304,3 +306,10 @@ shortest-reached = refl
 pub longest-reached : length_by 0 (greatest kind.ir_delay) (greatest kind.ir_expo) (greatest kind.ccd_delay) (greatest kind.ccd_expo) ≡ longest
 unfolding length_by readout_of greatest rows
 longest-reached = refl
+
+-- what has to fit, in a state in range
+pub length-fits : (s : Head) (n : ℕ) → in_range s ≡ true → n ≡ length_of s.settings → Fits w16 n
+length-fits s n ranged is = record { fits = omega (arith, length-bounds s.settings (bounds s ranged).settings) }
+
+pub latches-most : (s : Head) → in_range s ≡ true → s.latches.vdetcom + s.latches.vdetadj ≤ 30
+latches-most s ranged = let h = (bounds s ranged).latches in omega arith

@@ -34,7 +34,6 @@ numbers-long (w ∷ ws) (t ∷ ts) s h = ap suc (numbers-long ws ts (stepped s w
 
 -- i words of a list have been given: what is left of it, from the head on, and of the outcomes
 pub record Giving (ws ts : List ℕ) (s : Head) (old now : List ℕ) (head : Head) (i : ℕ) : Type 0 where
-  pub ranged : in_range head ≡ true
   pub even : length ws ≡ length ts
   pub room : length ws ≤ length now
   pub long : length now ≡ length old
@@ -53,14 +52,16 @@ module _ (s : Head) (w : ℕ) (a : Answered) (answer : a ≡ answer_of s w) wher
   step-head ranged h g is =
       is ∙ ap (λ (a : Answered). elapsed g a.head) answer ∙ sym (ticks-elapsed g (answer_of s w).head (word_keeps s ranged w))
 
+  pub step-ranged : in_range s ≡ true → (h : Head) (g : ℕ) → h ≡ elapsed g a.head → in_range h ≡ true
+  step-ranged ranged h g is = rw (step-head ranged h g is) (ticks-keep g (answer_of s w).head (word_keeps s ranged w))
+
   pub step-number : (n : ℕ) → n ≡ outcome_number a.outcome → n ≡ outcome_number (answer_of s w).outcome
   step-number n number = rw (← answer) number
 
 module _ {ws ts : List ℕ} {s : Head} {old : List ℕ} where
-  pub giving-first : in_range s ≡ true → is_list ws ts ≡ true → length ws ≤ length old → Giving ws ts s old old s 0
-  giving-first ranged fits room =
+  pub giving-first : is_list ws ts ≡ true → length ws ≤ length old → Giving ws ts s old old s 0
+  giving-first fits room =
       record {
-        ranged = ranged;
         even = list-even ws ts fits;
         room = room;
         long = refl;
@@ -92,7 +93,6 @@ module _ {ws ts : List ℕ} {s : Head} {old : List ℕ} where
       unfolding stepped head_listed numbers_listed outcomes_listed
       core =
           record {
-            ranged = ticks-keep (gap_after t later) (answer_of head w).head (word_keeps head h.ranged w);
             even = h.even;
             room = let room = h.room in simp length-set (omega arith);
             long = simp length-set h.long;

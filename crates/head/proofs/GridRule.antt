@@ -1,17 +1,15 @@
 -- The rule of the grid: one test computed over all of its entries, and what it says of each.
 -- Assumes nothing.
-use mathlib.Core.Path.{◌≡◌, refl, sym}
-use mathlib.Core.Bool.{Bool, true, false, cond, ◌&&◌, not}
+use mathlib.Core.Path.{◌≡◌, refl}
+use mathlib.Core.Bool.{Bool, true, false, ◌&&◌}
 use mathlib.Core.List.{List, []}
 use Prim.Native.Nat.{ℕ, zero, suc, ◌<◌, ◌≤◌}
 use native.Mathlib.Omega.{arith}
-use borrow.Author.Tests.{le-ltb}
-use lib.Dec.{T, ltb, eqb}
+use lib.Dec.{T, eqb}
 use lib.ListN.{get_or}
-use Rattle.words.specs.Kinds as kind
 use Rattle.words.proofs.Tables.{left as and_left, right as and_right}
 use Rattle.words.proofs.Tables.{agree, agree_at}
-use Rattle.head.specs.Grid.{moving, busy, applies}
+use Rattle.head.specs.Grid.{applies}
 
 abbrev one : Bool → ℕ
 one true = 1
@@ -37,15 +35,3 @@ row g (suc (suc (suc p))) ok h = absurd (omega arith)
 pub grid-rule : (g : List (List ℕ)) (p k : ℕ) → T (ruled_all g) → p ≤ 2 → k < 28 → eqb (get_or (get_or g p []) k 0) 1 ≡ applies p k
 grid-rule g p k ok h kind =
     rw (agree_at (λ k. get_or (get_or g p []) k 0) (λ k. one (applies p k)) 28 (row g p ok (omega arith)) k kind) (one-eqb (applies p k))
-
-pub no-phase : (p k : ℕ) → 2 < p → false ≡ applies p k
-unfolding applies
-no-phase p k h = rw (le-ltb p 3 h)
-
-pub no_kind : (p k : ℕ) → 28 ≤ k → false ≡ applies p k
-unfolding applies
-no_kind p k h = rw (le-ltb k 28 h) (sym (absorbed (ltb p 3)))
-  where
-    absorbed : (a : Bool) → (a && false && cond (eqb p busy) (eqb k kind.stop) (cond (eqb p moving) (not (eqb k kind.cover)) true)) ≡ false
-    absorbed true = refl
-    absorbed false = refl

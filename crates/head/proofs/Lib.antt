@@ -5,11 +5,9 @@ pub mod Answers
 pub mod Keep
 pub mod Ignored
 pub mod Ticks
-pub mod Passing
 pub mod Findings
 pub mod RowRange
 pub mod RowSet
-pub mod Ways
 pub mod Numbered
 pub mod BusyTicks
 pub mod Gaps

@@ -10,19 +10,13 @@ use lib.ListN.{length, drop}
 use Rattle.words.proofs.Tests.{and_left, and_right}
 use Rattle.timed.specs.List.{rising, most_words, is_list}
 use Rattle.timed.proofs.Rising.{list-even}
+use Rattle.std.specs.Prelude.{Ok, Err}
 use Rattle.head.specs.Range.{in_range}
 use Rattle.head.specs.Numbers.{cause_number}
-use Rattle.head.specs.List.{head_listed, numbers_listed, list_of, outcomes_after, list_answer_number, list_number}
+use Rattle.head.specs.List.{head_listed, numbers_listed, list_of, outcomes_after, list_error_number, list_answer_number, list_number}
 use Rattle.head.specs.declared.state.Head.{Head}
-use Rattle.head.specs.declared.word.Cause.TheVariants.{State}
-use Rattle.head.specs.declared.list.ListAnswer.{ListAnswer}
-use Rattle.head.specs.declared.list.ListAnswer.TheVariants.{Done, StateRefused, ListRefused}
+use Rattle.head.specs.declared.list.ListError.TheVariants.{StateRefused, ListRefused}
 use Rattle.head.proofs.Giving.{numbers-long}
-
--- `number`: r is the cause's number
-pub refused-number : (a : ListAnswer) (r : ℕ) → a ≡ StateRefused → r ≡ cause_number State → r ≡ list_answer_number a
-unfolding list_answer_number
-refused-number a r e is = rw e is
 
 -- 31 where any of its checks fails, 0 where none does
 list-number : (s : Head) (ws ts : List ℕ) (room : ℕ) → in_range s ≡ true → (b : Bool) → (is_list ws ts && leb (length ws) room) ≡ b
@@ -44,21 +38,21 @@ list-number s ws ts room ranged b e =
 -- the ways through `list`: i is what the range check answered, l whether there is a list
 module _ (s : Head) (ws ts : List ℕ) (room : ℕ) (i : Bool) (is : i ≡ in_range s) where
   module _ (out : not i ≡ true) where
-    pub list-state : record { head = s; answer = StateRefused } ≡ list_of s ws ts room
+    pub list-state : record { head = s; answer = Err StateRefused } ≡ list_of s ws ts room
     unfolding list_of
     list-state = simp (← is, out)
 
-    pub list-state-number : list_answer_number StateRefused ≡ list_number s ws ts room
-    unfolding list_answer_number list_number cause_number
+    pub list-state-number : list_answer_number (Err StateRefused) ≡ list_number s ws ts room
+    unfolding list_answer_number list_error_number list_number cause_number
     list-state-number = simp (← is, out)
 
   module _ (passes : not i ≡ false) (l : Bool) (listed : l ≡ is_list ws ts) where
     module _ (no : not (l && leb (length ws) room) ≡ true) where
-      pub list-not : record { head = s; answer = ListRefused } ≡ list_of s ws ts room
+      pub list-not : record { head = s; answer = Err ListRefused } ≡ list_of s ws ts room
       unfolding list_of
       list-not = simp (← is, passes, ← listed, no)
 
-      pub list-not-number : list_answer_number ListRefused ≡ list_number s ws ts room
+      pub list-not-number : list_answer_number (Err ListRefused) ≡ list_number s ws ts room
       unfolding list_answer_number
       list-not-number =
           sym (list-number s ws ts room (sym is ∙ not-false i passes) false (rw (← listed) (not-true (l && leb (length ws) room) no)))
@@ -73,25 +67,25 @@ module _ (s : Head) (ws ts : List ℕ) (room : ℕ) (i : Bool) (is : i ≡ in_ra
       pub list-room : length ws ≤ room
       list-room = leb-true (length ws) room (and_right l (leb (length ws) room) both)
 
-      pub list_done : (h : Head) → h ≡ head_listed ws ts s → record { head = h; answer = Done } ≡ list_of s ws ts room
+      pub list_done : (h : Head) → h ≡ head_listed ws ts s → record { head = h; answer = Ok tt } ≡ list_of s ws ts room
       unfolding list_of
       list_done h e = simp (e, ← is, passes, ← listed, yes)
 
-      pub list-done-number : list_answer_number Done ≡ list_number s ws ts room
+      pub list-done-number : list_answer_number (Ok tt) ≡ list_number s ws ts room
       unfolding list_answer_number
       list-done-number = sym (list-number s ws ts room (sym is ∙ not-false i passes) true (rw (← listed) both))
 
 -- the outcomes of each way
 module _ (numbers old : List ℕ) where
-  pub outcomes-state : old ≡ outcomes_after StateRefused numbers old
+  pub outcomes-state : old ≡ outcomes_after (Err StateRefused) numbers old
   unfolding outcomes_after
   outcomes-state = refl
 
-  pub outcomes-not : old ≡ outcomes_after ListRefused numbers old
+  pub outcomes-not : old ≡ outcomes_after (Err ListRefused) numbers old
   unfolding outcomes_after
   outcomes-not = refl
 
 pub outcomes-done : (ws ts : List ℕ) (s : Head) (old after : List ℕ) → is_list ws ts ≡ true
-    → after ≡ numbers_listed ws ts s ++ drop (length ws) old → after ≡ outcomes_after Done (numbers_listed ws ts s) old
+    → after ≡ numbers_listed ws ts s ++ drop (length ws) old → after ≡ outcomes_after (Ok tt) (numbers_listed ws ts s) old
 unfolding outcomes_after
 outcomes-done ws ts s old after h e = e ∙ rw (numbers-long ws ts s (list-even ws ts h))

@@ -8,49 +8,25 @@ use borrow.Author.Tests.{eqb-true, not-false}
 use lib.Dec.{ltb, eqb}
 use Rattle.words.specs.Kinds as kind
 use Rattle.words.specs.Kinds.{rows, identifier, bits_of, allowed, kind_of, kinds}
-use Rattle.words.specs.Codec.{decode_of, judged, encode_of, word_of}
-use Rattle.words.specs.declared.Decoded.TheVariants.{Word}
+use Rattle.std.specs.Prelude.{Ok}
+use Rattle.words.specs.Codec.{word, decode_of, judged, encode_of, word_of}
 use Rattle.words.proofs.Codec.{decode-encode, decode-read}
 use Rattle.head.specs.Range.{in_range}
 use Rattle.head.specs.Busy.{busy_ticks, is_busy}
 use Rattle.head.specs.Apply.{act_of}
 use Rattle.head.specs.Word.{out_of_turn, on_word, on_decoded, answer_of, stop_word}
 use Rattle.head.specs.Tick.{passed, tick_of}
-use Rattle.head.specs.Numbers.{act_number, cause_number, outcome_number, task_number, due_number, taken_number, answer_number, tick_number}
-use Rattle.head.specs.declared.state.Task.{Task}
-use Rattle.head.specs.declared.state.Flags.{Flags}
+use Rattle.head.specs.Numbers.{act_number, cause_number, outcome_number, due_number, taken_number, answer_number, tick_number}
 use Rattle.head.specs.declared.state.Head.{Head}
-use Rattle.head.specs.declared.word.Act.{Act}
 use Rattle.head.specs.declared.word.Act.TheVariants.{None, Exposure, Request, Cover}
-use Rattle.head.specs.declared.word.Cause.{Cause}
 use Rattle.head.specs.declared.word.Cause.TheVariants.{State}
-use Rattle.head.specs.declared.word.Outcome.{Outcome}
-use Rattle.head.specs.declared.word.Outcome.TheVariants.{Taken, Ignored}
+use Rattle.head.specs.declared.word.Outcome.TheVariants.{Ignored}
 use Rattle.head.specs.declared.word.Answered.{Answered}
-use Rattle.head.specs.declared.tick.Due.{Due}
-use Rattle.head.specs.declared.tick.Due.TheVariants.{Blocks, Refused}
+use Rattle.head.specs.declared.tick.Due.TheVariants.{Refused}
 use Rattle.head.specs.declared.tick.Ticked.{Ticked}
 
--- the cases that hold something: r is the number found for what they hold
-pub cover-number : (a : Act) (b : ℕ) → a ≡ Cover b → 0x1000 + b ≡ act_number a
-unfolding act_number
-cover-number a b e = rw e
-
-module _ (r : ℕ) where
-  pub taken-number : (o : Outcome) (a : Act) → o ≡ Taken a → r ≡ act_number a → r ≡ outcome_number o
-  unfolding outcome_number
-  taken-number o a e is = rw e is
-
-  pub ignored-number : (o : Outcome) (c : Cause) → o ≡ Ignored c → r ≡ cause_number c → r ≡ outcome_number o
-  unfolding outcome_number
-  ignored-number o c e is = rw e is
-
-  pub blocks-number : (d : Due) (t : Task) (f : Flags) → d ≡ Blocks t f → r ≡ task_number t → r ≡ due_number d
-  unfolding due_number
-  blocks-number d t f e is = rw e is
-
 -- a cover word is its data bits above 1000 hex
-cover-word : (w b : ℕ) → w < 65536 → decode_of w ≡ Word kind.cover b → 0x1000 + b ≡ w
+cover-word : (w b : ℕ) → w < 65536 → decode_of w ≡ Ok (word kind.cover b) → 0x1000 + b ≡ w
 unfolding encode_of word_of rows
 cover-word w b h e =
     let r = decode-read w kind.cover b e in
@@ -59,7 +35,7 @@ cover-word w b h e =
     is
 
 -- the act of a word that is taken
-act-number : (w k b : ℕ) → w < 65536 → decode_of w ≡ Word k b → act_number (act_of k b) ≡ taken_number w
+act-number : (w k b : ℕ) → w < 65536 → decode_of w ≡ Ok (word k b) → act_number (act_of k b) ≡ taken_number w
 unfolding act_number act_of taken_number
 act-number w k b h e = rw (← (decode-read w k b e).kind) (go (eqb k kind.start) (eqb k kind.hk) (eqb k kind.cover) refl)
   where

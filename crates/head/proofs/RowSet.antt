@@ -5,12 +5,11 @@ use mathlib.Core.Bool.{Bool, true, false, ◌&&◌}
 use Prim.Native.Nat.{ℕ, zero, suc, ◌+◌, ◌<◌, ◌≤◌}
 use native.Mathlib.Decide.{ℕ_discrete}
 use native.Mathlib.Omega.{arith}
-use borrow.Author.Tests.{leb-true, leb-false}
+use borrow.Author.Tests.{leb-false}
 use lib.Dec.{leb}
 use mathlib.Core.List.{List}
 use lib.ListN.{set}
 use Rattle.words.specs.Kinds as kind
-use Rattle.words.proofs.Tests.{and_left, and_right}
 use Rattle.head.specs.Apply.{after}
 use Rattle.head.specs.Row.{registers, register_numbers, settings_of}
 use Rattle.head.specs.ByRow.{place_of}
@@ -78,11 +77,3 @@ module _ (k : ℕ) (low : kind.stop < k) (high : k < kind.sin_m) (other : (leb k
   pub register-set : (s : Head) (r : Settings) (b at : ℕ) (row : List ℕ) → row ≡ register_numbers s.settings → at ≡ place_of k
       → r ≡ settings_of (set row at b) → with s r ≡ after s k b
   register-set s r b at row is here e = rw (e, is, here) (plain (Sets s b) (sets_first s b) (sets-rest s b) k low high other)
-
--- a kind of the detector's voltages
-module _ (k : ℕ) (voltage : (leb kind.vdetcom_m k && leb k kind.vdetadj_l) ≡ true) where
-  pub voltage-first : kind.vdetcom_m ≤ k
-  voltage-first = leb-true kind.vdetcom_m k (and_left (leb kind.vdetcom_m k) (leb k kind.vdetadj_l) voltage)
-
-  pub voltage-last : k ≤ kind.vdetadj_l
-  voltage-last = leb-true k kind.vdetadj_l (and_right (leb kind.vdetcom_m k) (leb k kind.vdetadj_l) voltage)

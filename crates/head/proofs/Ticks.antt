@@ -78,3 +78,9 @@ module _ (n : ℕ) (s : Head) (h : in_range s ≡ true) where
   pub ticks-begun : (ticks_of n s).begun ≡ s.begun
   unfolding elapsed
   ticks-begun = rw (ticks-elapsed n s h)
+
+-- a state out of range stays as it is
+pub ticks-out : (n : ℕ) (s : Head) → in_range s ≡ false → ticks_of n s ≡ s
+unfolding ticks_of tick_of
+ticks-out zero s h = refl
+ticks-out (suc n) s h = rw h (ticks-out n s h)

@@ -1,9 +1,8 @@
--- The answer to a word of a known kind with allowed data, and to any other finding, as the code finds them: through the phase and
+-- The answer to a word of a known kind with allowed data, and to any other word, as the code finds them: through the phase and
 -- the grid. That they are `answer_of` is a law, so a reader need not believe this file.
 -- Assumes nothing.
-use Rattle.std.specs.Prelude.{ℕ, Bool, true, false, cond, eqb}
-use Rattle.words.specs.declared.Decoded.{Decoded}
-use Rattle.words.specs.declared.Decoded.TheVariants.{Word, Unknown, OutOfRange}
+use Rattle.std.specs.Prelude.{ℕ, Err, cond, eqb}
+use Rattle.words.specs.declared.DecodeError.{DecodeError}
 use Rattle.head.specs.State.{none_begun}
 use Rattle.head.specs.Busy.{is_busy}
 use Rattle.head.specs.Grid.{busy, phase_of, applies}
@@ -14,11 +13,6 @@ use Rattle.head.specs.declared.state.Head.{Head}
 use Rattle.head.specs.declared.word.Cause.TheVariants.{Busy, CoverMoving, Turn}
 use Rattle.head.specs.declared.word.Outcome.TheVariants.{Taken}
 use Rattle.head.specs.declared.word.Answered.{Answered}
-
-unfoldable pub is_word : Decoded → Bool
-is_word (Word k b) = true
-is_word Unknown = false
-is_word (OutOfRange k) = false
 
 -- A word that the grid ignores: busy, or the cover moves.
 unfoldable pub waiting : Head → ℕ → Answered
@@ -32,5 +26,5 @@ by_grid s k b =
     (record { head = after s k b; outcome = Taken (act_of k b) }))
     (waiting s (phase_of s))
 
-unfoldable pub by_finding : Head → Decoded → Answered
-by_finding s d = cond (is_busy s) (ignored s (time_both s.flags) s.begun Busy) (on_decoded s d)
+unfoldable pub by_finding : Head → DecodeError → Answered
+by_finding s e = cond (is_busy s) (ignored s (time_both s.flags) s.begun Busy) (on_decoded s (Err e))

@@ -1,10 +1,11 @@
 -- Document 01, "The head": its answer to a word, in the order of the checks.
 -- Assumes nothing.
-use Rattle.std.specs.Prelude.{ℕ, Bool, cond, not, ◌&&◌, ◌||◌, eqb, ltb}
+use Rattle.std.specs.Prelude.{ℕ, Result, Ok, Err, Bool, cond, not, ◌&&◌, ◌||◌, eqb, ltb}
 use Rattle.words.specs.Kinds as kind
 use Rattle.words.specs.Codec.{decode_of}
-use Rattle.words.specs.declared.Decoded.{Decoded}
-use Rattle.words.specs.declared.Decoded.TheVariants.{Word, Unknown, OutOfRange}
+use Rattle.words.specs.declared.Word.{Word}
+use Rattle.words.specs.declared.DecodeError.{DecodeError}
+use Rattle.words.specs.declared.DecodeError.TheVariants.{Unknown, OutOfRange}
 use Rattle.head.specs.Range.{in_range}
 use Rattle.head.specs.Busy.{is_busy}
 use Rattle.head.specs.State.{none_begun}
@@ -39,11 +40,11 @@ on_word s k b =
     (record { head = after s k b; outcome = Taken (act_of k b) }))
 
 -- 23, 24; a mirror word out of range drops the begun set.
-unfoldable pub on_decoded : Head → Decoded → Answered
-on_decoded s Unknown = ignored s (word_both s.flags) s.begun UnknownWord
-on_decoded s (OutOfRange k) =
+unfoldable pub on_decoded : Head → Result Word DecodeError → Answered
+on_decoded s (Err Unknown) = ignored s (word_both s.flags) s.begun UnknownWord
+on_decoded s (Err (OutOfRange k)) =
     ignored s (out_of_range_flags k s.flags) (cond (mirror_word k) none_begun s.begun) Range
-on_decoded s (Word k b) = on_word s k b
+on_decoded s (Ok w) = on_word s w.kind w.bits
 
 -- STOP's word, C000.
 abbrev pub stop_word : ℕ

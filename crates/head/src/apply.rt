@@ -2,17 +2,19 @@
 ghost use Rattle.std.specs.Prelude.{◌≡◌, true, false, ◌&&◌, leb, ℕ, ◌+◌, ◌*◌, ◌≤◌, ◌<◌, max};
 ghost use Rattle.words.specs.Kinds.{stop, vdetcom_m, vdetadj_l, sin_m, cos_l, switch, cover};
 ghost use Rattle.head.specs.Limits.{step_ticks, readout_of, length_by, length_of};
-ghost use Rattle.head.specs.Range.{in_range};
 ghost use Rattle.head.specs.Apply.{after};
 ghost use Rattle.head.specs.Row.{registers};
 ghost use Rattle.head.specs.ByRow.{place_of};
 
+use crate::range::Ranged;
 use crate::state::{Begun, Head, Latches, Motion, Settings, Work};
+use crate::word::Known;
 use words::kinds::{
     COS_L, COS_M, HK, SIN_L, SIN_M, START, STOP, SWITCH, VDETADJ_L, VDETADJ_M, VDETCOM_L, VDETCOM_M,
 };
 
 // The ticks of the IR readout in a window mode.
+#[tactic(auto, unfolding(crate::specs::Limits::readout_of))]
 fn readout(mode: u16) -> u16
     ensures { result ≡ readout_of mode }
 {
@@ -30,23 +32,19 @@ fn channel(delay: u16, expo: u16, readout: u16) -> u32
     Head::STEP_TICKS as u32 * (delay as u32 + expo as u32) + readout as u32
 }
 
-pub(crate) fn larger(a: u32, b: u32) -> u32
-    ensures { result ≡ max a b }
-{
-    if a < b { b } else { a }
-}
-
 // The length of an acquisition in ticks, by the settings that give it.
+#[tactic(auto, unfolding(crate::specs::Limits::length_by))]
 pub fn acquisition_ticks(mode: u16, irdelay: u16, irexpo: u16, ccddelay: u16, ccdexpo: u16) -> u32
     ensures { result ≡ length_by mode irdelay irexpo ccddelay ccdexpo }
 {
     let ccd = channel(ccddelay, ccdexpo, Head::CCD_READOUT);
     let ir = channel(irdelay, irexpo, readout(mode));
     let extra = Head::EXTRA_TICKS as u32;
-    extra + larger(ccd, ir)
+    extra + ccd.max(ir)
 }
 
 impl Settings {
+    #[tactic(auto, unfolding(crate::specs::Limits::length_of))]
     pub fn acquisition_ticks(self) -> u32
         ensures { result ≡ length_of self }
     {
@@ -60,7 +58,8 @@ impl Settings {
     }
 }
 
-// The place in the row of registers of the one that a word sets, by its kind; 20 for a kind that sets none, or does more.
+// The place in the row of registers of the one that a word sets, by its kind; 20 for a kind that sets none, or does more. A table, since a `match` by
+// the kind costs a word some 50 instructions more.
 const PLACE: [u8; 28] = [
     20, // NOP
     20, // START
@@ -93,9 +92,9 @@ const PLACE: [u8; 28] = [
 ];
 
 fn place_of(kind: u8) -> u8
-    requires fact_1 { stop < kind }
-    requires fact_2 { kind < sin_m }
-    requires fact_3 { (leb vdetcom_m kind && leb kind vdetadj_l) ≡ false }
+    requires above { stop < kind }
+    requires below { kind < sin_m }
+    requires no_voltage { (leb vdetcom_m kind && leb kind vdetadj_l) ≡ false }
     ensures value { result ≡ place_of kind }
     ensures upper_bound { result < registers }
 {
@@ -103,155 +102,22 @@ fn place_of(kind: u8) -> u8
 }
 
 impl Head {
-    // START begins an acquisition, HK keeps the head busy, STOP makes it idle, NOP does nothing.
-    fn control(mut self, kind: u8) -> Head
-        requires fact_1 { kind ≤ stop }
-        requires fact_2 { in_range self ≡ true }
-        ensures { (b : ℕ) → result ≡ after self kind b }
-    {
-        match kind {
-            START => {
-                let ticks = self.settings.acquisition_ticks();
-                let busy = ticks as u16;
-                let work = Work {
-                    task: Head::ACQUISITION,
-                    busy,
-                };
-                self.work = work;
-                self
-            }
-            HK => {
-                let work = Work {
-                    task: Head::HOUSEKEEPING,
-                    busy: Head::HK_TICKS,
-                };
-                self.work = work;
-                self
-            }
-            STOP => {
-                let work = Work {
-                    task: Head::NO_TASK,
-                    busy: 0,
-                };
-                self.work = work;
-                self
-            }
-            _ => self,
-        }
-    }
-
-    // An M word fills a latch, an L word sets the register.
-    fn voltage(mut self, kind: u8, bits: u16) -> Head
-        requires fact_1 { vdetcom_m ≤ kind }
-        requires fact_2 { kind ≤ vdetadj_l }
-        requires fact_3 { in_range self ≡ true }
-        requires fact_4 { bits < 1024 }
-        ensures { result ≡ after self kind bits }
-    {
-        match kind {
-            VDETCOM_M => {
-                self.latches.vdetcom = bits;
-                self
-            }
-            VDETCOM_L => {
-                let value = self.latches.vdetcom * 256 + bits;
-                self.settings.vdetcom = value;
-                self
-            }
-            VDETADJ_M => {
-                self.latches.vdetadj = bits;
-                self
-            }
-            _ => {
-                let value = self.latches.vdetadj * 256 + bits;
-                self.settings.vdetadj = value;
-                self
-            }
-        }
-    }
-
     // A word that sets the register of its name and nothing else.
-    fn set(mut self, kind: u8, bits: u16) -> Head
-        requires fact_1 { stop < kind }
-        requires fact_2 { kind < sin_m }
-        requires fact_3 { (leb vdetcom_m kind && leb kind vdetadj_l) ≡ false }
-        ensures { result ≡ after self kind bits }
+    fn set(mut self, word: Known) -> Head
+        requires above { stop < word.kind }
+        requires below { word.kind < sin_m }
+        requires no_voltage { (leb vdetcom_m word.kind && leb word.kind vdetadj_l) ≡ false }
+        ensures { result ≡ after self word.kind word.bits }
     {
         let mut row = self.settings.numbers();
-        let at = place_of(kind);
-        row[at as usize] = bits;
-        let settings = Settings::of(row);
-        self.settings = settings;
-        self
-    }
-
-    // A mirror word in turn; the pair changes at COS L.
-    fn mirror(mut self, kind: u8, bits: u16) -> Head
-        requires fact_1 { sin_m ≤ kind }
-        requires fact_2 { kind ≤ cos_l }
-        requires fact_3 { in_range self ≡ true }
-        requires fact_4 { bits < 1024 }
-        ensures { result ≡ after self kind bits }
-    {
-        let begun = self.begun;
-        match kind {
-            SIN_M => {
-                let next = Begun {
-                    count: 1,
-                    sinm: bits,
-                    sinl: 0,
-                    cosm: 0,
-                };
-                self.begun = next;
-                self
-            }
-            SIN_L => {
-                let next = Begun {
-                    count: 2,
-                    sinm: begun.sinm,
-                    sinl: bits,
-                    cosm: 0,
-                };
-                self.begun = next;
-                self
-            }
-            COS_M => {
-                let next = Begun {
-                    count: 3,
-                    sinm: begun.sinm,
-                    sinl: begun.sinl,
-                    cosm: bits,
-                };
-                self.begun = next;
-                self
-            }
-            _ => self.pointed(bits),
-        }
-    }
-
-    // COS L: the begun set becomes the mirror's pair.
-    fn pointed(mut self, bits: u16) -> Head
-        requires fact_1 { in_range self ≡ true }
-        requires fact_2 { bits < 1024 }
-        ensures { result ≡ after self cos_l bits }
-    {
-        let begun = self.begun;
-        let sine = begun.sinm * 256 + begun.sinl;
-        let cosine = begun.cosm * 256 + bits;
-        let none = Begun {
-            count: 0,
-            sinm: 0,
-            sinl: 0,
-            cosm: 0,
-        };
-        self.settings.sine = sine;
-        self.settings.cosine = cosine;
-        self.motion.mirror = Head::MIRROR_TICKS;
-        self.begun = none;
+        let at = place_of(word.kind);
+        row[at as usize] = word.bits;
+        self.settings = Settings::from(row);
         self
     }
 
     // SWITCH: 0 is on and moves the mirror.
+    #[tactic(auto, unfolding(crate::specs::Apply::after))]
     fn motor(mut self, bits: u16) -> Head
         ensures { result ≡ after self switch bits }
     {
@@ -263,51 +129,168 @@ impl Head {
         self
     }
 
-    fn cover(mut self, bits: u16) -> Head
-        requires { bits < 1024 }
-        ensures { result ≡ after self cover bits }
+    #[tactic(auto, unfolding(crate::specs::Apply::after))]
+    fn cover(mut self, word: Known) -> Head
+        ensures { result ≡ after self cover word.bits }
     {
-        let direction = bits / 512;
-        let ticks = Head::COVER_STEP_TICKS * (bits % 128);
-        self.settings.direction = direction;
-        self.motion.cover = ticks;
+        self.settings.direction = word.bits / 512;
+        self.motion.cover = Head::COVER_STEP_TICKS * (word.bits % 128);
         self
+    }
+}
+
+impl Ranged {
+    // START begins an acquisition, HK keeps the head busy, STOP makes it idle, NOP does nothing.
+    #[tactic(auto, unfolding(crate::specs::Apply::after))]
+    fn control(self, kind: u8) -> Head
+        requires { kind ≤ stop }
+        ensures { (b : ℕ) → result ≡ after self.head kind b }
+    {
+        let mut head = self.head;
+        match kind {
+            START => {
+                let ticks = head.settings.acquisition_ticks();
+                let busy = ticks as u16;
+                head.work = Work {
+                    task: Head::ACQUISITION,
+                    busy,
+                };
+                head
+            }
+            HK => {
+                head.work = Work {
+                    task: Head::HOUSEKEEPING,
+                    busy: Head::HK_TICKS,
+                };
+                head
+            }
+            STOP => {
+                head.work = Work {
+                    task: Head::NO_TASK,
+                    busy: 0,
+                };
+                head
+            }
+            _ => head,
+        }
+    }
+
+    // An M word fills a latch, an L word sets the register.
+    #[tactic(auto, unfolding(crate::specs::Apply::after))]
+    fn voltage(self, word: Known) -> Head
+        requires first { vdetcom_m ≤ word.kind }
+        requires last { word.kind ≤ vdetadj_l }
+        ensures { result ≡ after self.head word.kind word.bits }
+    {
+        let mut head = self.head;
+        let Known { kind, bits } = word;
+        match kind {
+            VDETCOM_M => {
+                head.latches.vdetcom = bits;
+                head
+            }
+            VDETCOM_L => {
+                let value = head.latches.vdetcom * 256 + bits;
+                head.settings.vdetcom = value;
+                head
+            }
+            VDETADJ_M => {
+                head.latches.vdetadj = bits;
+                head
+            }
+            _ => {
+                let value = head.latches.vdetadj * 256 + bits;
+                head.settings.vdetadj = value;
+                head
+            }
+        }
+    }
+
+    // A mirror word in turn; the pair changes at COS L.
+    #[tactic(auto, unfolding(crate::specs::Apply::after))]
+    fn mirror(self, word: Known) -> Head
+        requires first { sin_m ≤ word.kind }
+        requires last { word.kind ≤ cos_l }
+        ensures { result ≡ after self.head word.kind word.bits }
+    {
+        let mut head = self.head;
+        let Known { kind, bits } = word;
+        let begun = head.begun;
+        match kind {
+            SIN_M => {
+                head.begun = Begun {
+                    count: 1,
+                    sinm: bits,
+                    ..Begun::default()
+                };
+                head
+            }
+            SIN_L => {
+                head.begun = Begun {
+                    count: 2,
+                    sinl: bits,
+                    cosm: 0,
+                    ..begun
+                };
+                head
+            }
+            COS_M => {
+                head.begun = Begun {
+                    count: 3,
+                    cosm: bits,
+                    ..begun
+                };
+                head
+            }
+            _ => self.pointed(word),
+        }
+    }
+
+    // COS L: the begun set becomes the mirror's pair.
+    #[tactic(auto, unfolding(crate::specs::Apply::after))]
+    fn pointed(self, word: Known) -> Head
+        ensures { result ≡ after self.head cos_l word.bits }
+    {
+        let mut head = self.head;
+        let begun = head.begun;
+        let sine = begun.sinm * 256 + begun.sinl;
+        let cosine = begun.cosm * 256 + word.bits;
+        head.settings.sine = sine;
+        head.settings.cosine = cosine;
+        head.motion.mirror = Head::MIRROR_TICKS;
+        head.begun = Begun::default();
+        head
     }
 
     // A word of the mirror or the cover.
-    fn moved(self, kind: u8, bits: u16) -> Head
-        requires fact_1 { sin_m ≤ kind }
-        requires fact_2 { kind < 28 }
-        requires fact_3 { bits < 1024 }
-        requires fact_4 { in_range self ≡ true }
-        ensures { result ≡ after self kind bits }
+    fn moved(self, word: Known) -> Head
+        requires { sin_m ≤ word.kind }
+        ensures { result ≡ after self.head word.kind word.bits }
     {
-        if kind <= COS_L {
-            return self.mirror(kind, bits);
+        if word.kind <= COS_L {
+            return self.mirror(word);
         }
-        if kind == SWITCH {
-            return self.motor(bits);
+        if word.kind == SWITCH {
+            return self.head.motor(word.bits);
         }
-        self.cover(bits)
+        self.head.cover(word)
     }
 
-    // The state after a word of this kind with these data, which are allowed.
-    pub(crate) fn applied(self, kind: u8, bits: u16) -> Head
-        requires fact_1 { kind < 28 }
-        requires fact_2 { bits < 1024 }
-        requires fact_3 { in_range self ≡ true }
-        ensures { result ≡ after self kind bits }
+    // The state after a word, whose data are allowed.
+    pub(crate) fn applied(self, word: Known) -> Head
+        ensures { result ≡ after self.head word.kind word.bits }
     {
+        let kind = word.kind;
         if kind <= STOP {
             return self.control(kind);
         }
         if SIN_M <= kind {
-            return self.moved(kind, bits);
+            return self.moved(word);
         }
         let voltage = (VDETCOM_M <= kind) & (kind <= VDETADJ_L);
         if voltage {
-            return self.voltage(kind, bits);
+            return self.voltage(word);
         }
-        self.set(kind, bits)
+        self.head.set(word)
     }
 }

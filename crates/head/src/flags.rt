@@ -38,6 +38,7 @@ impl FlagBits {
     }
 
     // The flags after a word of this kind with data out of range.
+    #[tactic(auto, unfolding(crate::specs::Flags::out_of_range_flags, crate::specs::Flags::for_vis, crate::specs::Flags::for_both, crate::specs::Flags::mirror_word, crate::specs::Flags::one_of))]
     pub fn out_of_range(mut self, kind: u8) -> FlagBits
         ensures { result ≡ out_of_range_flags kind self }
     {
@@ -56,18 +57,6 @@ impl FlagBits {
         }
         self.irword = 1;
         self
-    }
-
-    pub fn none() -> FlagBits
-        ensures { result ≡ no_flags }
-    {
-        FlagBits {
-            irtime: 0,
-            irword: 0,
-            scan: 0,
-            vistime: 0,
-            visword: 0,
-        }
     }
 
     // The flags as the blocks show them.

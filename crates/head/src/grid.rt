@@ -11,7 +11,7 @@ pub const MOVING: usize = 1;
 
 pub const BUSY: usize = 2;
 
-// 1 applies the word, 0 ignores it:
+// 1 applies the word, 0 ignores it. Small numbers in an array for each phase, as document 01 names the form:
 //
 // | phase                      | applied       | ignored      |
 // |----------------------------|---------------|--------------|
@@ -115,6 +115,7 @@ const GRID: [[u8; 28]; 3] = [
 ];
 
 // Whether a word of this kind is applied in this phase.
+#[tactic(auto, unfolding(crate::specs::Grid::applies))]
 pub fn applied(phase: usize, kind: u8) -> bool
     ensures { result ≡ applies phase kind }
 {
@@ -128,15 +129,14 @@ pub fn applied(phase: usize, kind: u8) -> bool
 }
 
 impl Head {
+    #[tactic(auto, unfolding(crate::specs::Grid::phase_of))]
     pub fn phase(self) -> usize
         ensures { result ≡ phase_of self }
     {
-        let busy = self.is_busy();
-        let cover = self.motion.cover;
-        if busy {
+        if self.is_busy() {
             return BUSY;
         }
-        if 0 < cover {
+        if 0 < self.motion.cover {
             return MOVING;
         }
         IDLE

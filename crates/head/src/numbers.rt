@@ -9,6 +9,7 @@ use crate::word::{Act, Cause, Outcome};
 
 impl Act {
     // A cover move gives its word.
+    #[tactic(auto, unfolding(crate::specs::Numbers::act_number))]
     pub fn number(self) -> u32
         ensures { result ≡ act_number self }
     {
@@ -22,6 +23,7 @@ impl Act {
 }
 
 impl Cause {
+    #[tactic(auto, unfolding(crate::specs::Numbers::cause_number))]
     pub fn number(self) -> u8
         ensures { result ≡ cause_number self }
     {
@@ -37,6 +39,7 @@ impl Cause {
 }
 
 // Whether the number of an outcome is a cause's.
+#[tactic(auto, unfolding(crate::specs::Numbers::is_cause))]
 pub fn is_cause(number: u32) -> bool
     ensures { result ≡ is_cause number }
 {
@@ -44,6 +47,7 @@ pub fn is_cause(number: u32) -> bool
 }
 
 impl Outcome {
+    #[tactic(auto, unfolding(crate::specs::Numbers::outcome_number))]
     pub fn number(self) -> u32
         ensures { result ≡ outcome_number self }
     {
@@ -54,18 +58,22 @@ impl Outcome {
     }
 }
 
-impl Task {
-    // The task of a number.
-    pub fn of(number: u16) -> Task
-        ensures { result ≡ task_of number }
-    {
+// The task of a number.
+impl From<u16> for Task {
+    ghost from_gives = { λ number task. task ≡ task_of number };
+
+    #[tactic(auto, unfolding(crate::specs::Tick::task_of))]
+    fn from(number: u16) -> Task {
         match number {
             Head::NO_TASK => Task::Idle,
             Head::ACQUISITION => Task::Acquisition,
             _ => Task::Housekeeping,
         }
     }
+}
 
+impl Task {
+    #[tactic(auto, unfolding(crate::specs::Numbers::task_number))]
     pub fn number(self) -> u8
         ensures { result ≡ task_number self }
     {
@@ -79,6 +87,7 @@ impl Task {
 
 impl Due {
     // Blocks due give the task that ended.
+    #[tactic(auto, unfolding(crate::specs::Numbers::due_number))]
     pub fn number(self) -> u8
         ensures { result ≡ due_number self }
     {

@@ -8,41 +8,30 @@ use crate::state::{FlagBits, Head, Motion, Work};
 fn less(ticks: u16, n: u32) -> u16
     ensures { result ≡ ticks - n }
 {
-    if (ticks as u32) < n {
-        0
-    } else {
-        ticks - n as u16
-    }
+    u32::from(ticks).saturating_sub(n) as u16
 }
 
 impl Head {
     // The state n ticks later, of a state in range.
+    #[tactic(auto, unfolding(crate::specs::Ticks::elapsed, crate::specs::Ticks::ends_within, crate::specs::Ticks::work_left))]
     pub(crate) fn later(mut self, n: u32) -> Head
         ensures { result ≡ elapsed n self }
     {
-        let motion = Motion {
+        self.motion = Motion {
             mirror: less(self.motion.mirror, n),
             cover: less(self.motion.cover, n),
         };
-        let before = self.work;
-        let task = before.task;
-        let busy = before.busy;
-        self.motion = motion;
-        if n < (busy as u32) {
-            let work = Work {
-                task,
-                busy: less(busy, n),
-            };
-            self.work = work;
+        let busy = self.work.busy;
+        if n < u32::from(busy) {
+            self.work.busy = less(busy, n);
             return self;
         }
-        let work = Work {
+        self.work = Work {
             task: Head::NO_TASK,
             busy: 0,
         };
-        self.work = work;
         if 0 < busy {
-            self.flags = FlagBits::none();
+            self.flags = FlagBits::default();
             return self;
         }
         self

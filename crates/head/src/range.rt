@@ -1,14 +1,12 @@
 // Whether a state is in range, asked of the row of its numbers.
-ghost use Rattle.std.specs.Prelude.{◌≡◌, cond, ◌-◌};
+ghost use Rattle.std.specs.Prelude.{◌≡◌, true, cond};
 ghost use Rattle.head.specs.Range.{in_range};
 ghost use Rattle.head.specs.ByRow.{most, at_most, received, lasting};
 
 use crate::state::Head;
 
-// How many numbers of a row have a limit of their own: all but the data of a begun set.
-const LIMITS: usize = 32;
-
-// The limit of each.
+// The limit of each number of a row that has one of its own: all but the data of a begun set. A row of its own, in the order of the state's, so that
+// the compiler compares eight at a time.
 const MOST: [u16; 32] = [
     Head::MOST_BIT, // detector
     Head::MOST_BIT, // mode
@@ -44,23 +42,15 @@ const MOST: [u16; 32] = [
     Head::MOST_BEGUN, // count
 ];
 
-// How far a number lies above its limit; 0 where it does not.
-fn over(n: u16, most: u16) -> u16
-    ensures { result ≡ n - most }
-{
-    if most < n { n - most } else { 0 }
-}
-
-// Whether no number of a row lies above its limit: how far each does is joined, and compared with 0 once.
+// Whether no number of a row lies above its limit: how far each does is joined, and compared with 0 once, since the compiler does eight
+// at a time so, and none where a chain stops at the first.
 fn within(row: [u16; 35]) -> bool
     ensures { result ≡ at_most row most }
 {
     let most = MOST;
-    let mut excess: u16 = 0;
-    let mut i: usize = 0;
-    while i < LIMITS {
-        excess = excess | over(row[i], most[i]);
-        i += 1;
+    let mut excess = 0;
+    for (i, limit) in most.iter().enumerate() {
+        excess |= row[i].saturating_sub(*limit);
     }
     excess == 0
 }
@@ -73,6 +63,7 @@ fn most_if(received: bool, most: u16) -> u16
 }
 
 // Whether the data of a begun set of so many words are in range.
+#[tactic(auto, unfolding(crate::specs::ByRow::received, words::specs::Kinds::greatest, words::specs::Kinds::rows))]
 fn is_received(count: u16, sinm: u16, sinl: u16, cosm: u16) -> bool
     ensures { result ≡ received count sinm sinl cosm }
 {
@@ -82,6 +73,7 @@ fn is_received(count: u16, sinm: u16, sinl: u16, cosm: u16) -> bool
 }
 
 // Whether a task may have so many ticks left.
+#[tactic(auto, unfolding(crate::specs::ByRow::lasting))]
 fn is_lasting(task: u16, busy: u16) -> bool
     ensures { result ≡ lasting task busy }
 {
@@ -90,6 +82,13 @@ fn is_lasting(task: u16, busy: u16) -> bool
         Head::ACQUISITION => 1 <= busy,
         _ => (1 <= busy) & (busy <= Head::HK_TICKS),
     }
+}
+
+// A state in range.
+#[derive(Clone, Copy)]
+pub(crate) struct Ranged {
+    pub(crate) head: Head,
+    ghost ranged: { in_range head ≡ true },
 }
 
 impl Head {

@@ -31,11 +31,13 @@ impl Settings {
             self.direction,
         ]
     }
+}
 
-    // The registers that a row stands for, in range or not.
-    pub fn of(row: [u16; 20]) -> Settings
-        ensures { result ≡ settings_of row }
-    {
+// The registers that a row stands for, in range or not.
+impl From<[u16; 20]> for Settings {
+    ghost from_gives = { λ row settings. settings ≡ settings_of row };
+
+    fn from(row: [u16; 20]) -> Settings {
         Settings {
             detector: row[0],
             mode: row[1],
@@ -62,30 +64,13 @@ impl Settings {
 }
 
 impl Head {
+    #[tactic(auto, unfolding(crate::specs::Row::numbers_of))]
     pub fn numbers(self) -> [u16; 35]
         ensures { result ≡ numbers_of self }
     {
-        [
-            self.settings.detector,
-            self.settings.mode,
-            self.settings.vdetcom,
-            self.settings.vdetadj,
-            self.settings.irdelay,
-            self.settings.irexpo,
-            self.settings.ccddelay,
-            self.settings.ccdexpo,
-            self.settings.x1,
-            self.settings.y1,
-            self.settings.x2,
-            self.settings.y2,
-            self.settings.ccdlamp,
-            self.settings.irlamp,
-            self.settings.shutter,
-            self.settings.annealing,
-            self.settings.sine,
-            self.settings.cosine,
-            self.settings.switch,
-            self.settings.direction,
+        let mut row = [0; 35];
+        row[..20].copy_from_slice(&self.settings.numbers());
+        row[20..].copy_from_slice(&[
             self.latches.vdetcom,
             self.latches.vdetadj,
             self.flags.irtime,
@@ -101,6 +86,7 @@ impl Head {
             self.begun.sinm,
             self.begun.sinl,
             self.begun.cosm,
-        ]
+        ]);
+        row
     }
 }

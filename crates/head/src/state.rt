@@ -5,7 +5,7 @@ ghost use Rattle.head.specs.State.{power_on};
 use words::kinds;
 
 // The registers, in the order of document 01's power-on list. A lamp, the shutter and the annealing hold their word's data.
-#[derive(Clone, Copy)]
+#[derive(Clone, Copy, Debug, PartialEq, Eq)]
 pub struct Settings {
     pub detector: u16,
     pub mode: u16,
@@ -33,14 +33,15 @@ pub struct Settings {
 }
 
 // The data of the last VDETCOM M and VDETADJ M words.
-#[derive(Clone, Copy)]
+#[derive(Clone, Copy, Debug, PartialEq, Eq)]
 pub struct Latches {
     pub vdetcom: u16,
     pub vdetadj: u16,
 }
 
-// The error flags of the two channels, as the state holds them: 1 where set, 0 where not.
-#[derive(Clone, Copy)]
+// The error flags of the two channels, as the state holds them: 1 where set, 0 where not. Numbers beside the bools of `Flags`, since a
+// state that C hands over may hold any, and is given back as it was.
+#[derive(Clone, Copy, Debug, Default, PartialEq, Eq)]
 pub struct FlagBits {
     pub irtime: u16,
     pub irword: u16,
@@ -50,7 +51,7 @@ pub struct FlagBits {
 }
 
 // The error flags as the blocks show them.
-#[derive(Clone, Copy)]
+#[derive(Clone, Copy, Debug, PartialEq, Eq)]
 pub struct Flags {
     pub irtime: bool,
     pub irword: bool,
@@ -59,29 +60,29 @@ pub struct Flags {
     pub visword: bool,
 }
 
-#[derive(Clone, Copy)]
+#[derive(Clone, Copy, Debug, PartialEq, Eq)]
 pub enum Task {
     Idle,
     Acquisition,
     Housekeeping,
 }
 
-// What the head is doing, a task by its number, and for how many ticks yet.
-#[derive(Clone, Copy)]
+// What the head is doing, a task by its number (C may hand over any), and for how many ticks yet.
+#[derive(Clone, Copy, Debug, PartialEq, Eq)]
 pub struct Work {
     pub task: u16,
     pub busy: u16,
 }
 
 // The ticks of motion that are left.
-#[derive(Clone, Copy)]
+#[derive(Clone, Copy, Debug, PartialEq, Eq)]
 pub struct Motion {
     pub mirror: u16,
     pub cover: u16,
 }
 
 // The mirror words received of a set that is not complete; a place not yet received holds 0.
-#[derive(Clone, Copy)]
+#[derive(Clone, Copy, Debug, Default, PartialEq, Eq)]
 pub struct Begun {
     pub count: u16,
     pub sinm: u16,
@@ -89,7 +90,7 @@ pub struct Begun {
     pub cosm: u16,
 }
 
-#[derive(Clone, Copy)]
+#[derive(Clone, Copy, Debug, PartialEq, Eq)]
 pub struct Head {
     pub settings: Settings,
     pub latches: Latches,

@@ -1,11 +1,12 @@
 // A tick of 10 ms.
-ghost use Rattle.std.specs.Prelude.{◌≡◌, ◌-◌};
+ghost use Rattle.std.specs.Prelude.{◌≡◌};
 ghost use Rattle.head.specs.Numbers.{due_number, tick_number};
 ghost use Rattle.head.specs.Tick.{motion_down, passed, tick_of};
 
 use crate::state::{FlagBits, Flags, Head, Motion, Task, Work};
 
-#[derive(Clone, Copy)]
+// Three answers of one rank, so an enum of its own: a `Result` of an `Option` would say the same less plainly.
+#[derive(Clone, Copy, Debug, PartialEq, Eq)]
 pub enum Due {
     Nothing,
     // Both blocks are due: the task that ended, and the flags that they show.
@@ -14,16 +15,10 @@ pub enum Due {
     Refused,
 }
 
-#[derive(Clone, Copy)]
+#[derive(Clone, Copy, Debug, PartialEq, Eq)]
 pub struct Ticked {
     pub head: Head,
     pub due: Due,
-}
-
-fn down(n: u16) -> u16
-    ensures { result ≡ n - 1 }
-{
-    if n == 0 { 0 } else { n - 1 }
 }
 
 impl Motion {
@@ -32,46 +27,38 @@ impl Motion {
         ensures { result ≡ motion_down self }
     {
         Motion {
-            mirror: down(self.mirror),
-            cover: down(self.cover),
+            mirror: self.mirror.saturating_sub(1),
+            cover: self.cover.saturating_sub(1),
         }
     }
 }
 
 impl Head {
     // A tick of a state in range.
+    #[tactic(auto, unfolding(crate::specs::Tick::passed))]
     fn ticked(mut self) -> Ticked
         ensures { result ≡ passed self }
     {
-        let motion = self.motion.lessened();
         let before = self.work;
-        let task = before.task;
         let busy = before.busy;
-        self.motion = motion;
+        self.motion = self.motion.lessened();
         if busy == 1 {
             let flags = self.flags;
-            let shown = flags.shown();
-            let ended = Task::of(task);
-            let cleared = FlagBits::none();
-            let work = Work {
+            let cleared = FlagBits::default();
+            self.flags = cleared;
+            self.work = Work {
                 task: Head::NO_TASK,
                 busy: 0,
             };
-            self.flags = cleared;
-            self.work = work;
             return Ticked {
                 head: self,
                 due: Due::Blocks {
-                    ended,
-                    flags: shown,
+                    ended: Task::from(before.task),
+                    flags: flags.shown(),
                 },
             };
         }
-        let work = Work {
-            task,
-            busy: down(busy),
-        };
-        self.work = work;
+        self.work.busy = busy.saturating_sub(1);
         Ticked {
             head: self,
             due: Due::Nothing,

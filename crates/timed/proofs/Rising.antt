@@ -1,63 +1,41 @@
--- Rising ticks, and the ways through the code that judges words and ticks.
+-- Rising ticks as std's method tests them, and what a list is.
 -- Assumes nothing.
-use mathlib.Core.Path.{◌≡◌, refl, sym, ap, ◌∙◌}
+use mathlib.Core.Path.{◌≡◌, refl}
 use mathlib.Core.Bool.{Bool, true, false, ◌&&◌}
 use mathlib.Core.List.{List, [], ◌∷◌}
-use Prim.Native.Nat.{ℕ, ◌+◌, ◌≤◌, ◌<◌}
+use Prim.Native.Nat.{ℕ, zero, suc, ◌+◌, ◌≤◌, ◌<◌}
 use native.Mathlib.Numerals.{add-one}
 use native.Mathlib.Omega.{arith}
-use borrow.Author.Tests.{lt-ltb, le-ltb, eq-eqb, ne_eqb, eqb-true, leb-true, le-leb, lt-leb}
+use borrow.Author.Tests.{eqb-true, leb-true}
 use lib.Dec.{eqb, leb, ltb}
-use lib.ListN.{length, get_or, drop, length-drop}
-use lib.Seq.{drop-cons}
+use lib.ListN.{length, get_or}
+use Rattle.std.specs.List.{IsAllAdjacentAnswer}
 use Rattle.words.proofs.Tests.{and_left, and_right}
 use Rattle.timed.specs.List.{rising, most_words, is_list}
 
--- two ticks one after another
-pub risen : (ts : List ℕ) (i : ℕ) → i + 1 < length ts
-    → rising (drop i ts) ≡ (ltb (get_or ts i 0) (get_or ts (i + 1) 0) && rising (drop (i + 1) ts))
+-- ticks rise where each is below the next, and not where one is not
+rises : (ts : List ℕ) → ((k d : ℕ) → k + 1 < length ts → true ≡ ltb (get_or ts k d) (get_or ts (k + 1) d)) → true ≡ rising ts
 unfolding rising
-risen ts i more =
-    let later = drop-cons ts (i + 1) 0 more in
-    let first = drop-cons ts i 0 (omega arith) ∙ ap (λ (j : ℕ). get_or ts i 0 ∷ drop j ts) (sym (add-one i)) in
-    ap rising (first ∙ ap (λ (l : List ℕ). get_or ts i 0 ∷ l) later)
-    ∙ ap (λ (l : List ℕ). ltb (get_or ts i 0) (get_or ts (i + 1) 0) && rising l) (sym later)
+rises [] h = refl
+rises (t ∷ []) h = refl
+rises (t ∷ (u ∷ ts)) h = rw (← h 0 0 (omega arith)) (rises (u ∷ ts) (λ k d more. simp add-one (simp add-one at (h (suc k) d (omega arith)))))
 
--- the loop of `rise`, with the ticks from i on to be judged
-module _ (ts : List ℕ) (i : ℕ) (left : rising ts ≡ rising (drop i ts)) where
-  pub rise-more : i + 1 < length ts → get_or ts i 0 < get_or ts (i + 1) 0 → rising ts ≡ rising (drop (i + 1) ts)
-  rise-more more less = left ∙ risen ts i more ∙ rw (lt-ltb (get_or ts i 0) (get_or ts (i + 1) 0) less)
+falls : (ts : List ℕ) (k : ℕ) → k + 1 < length ts → ((d : ℕ) → false ≡ ltb (get_or ts k d) (get_or ts (k + 1) d)) → false ≡ rising ts
+unfolding rising
+falls [] k more h = absurd (omega arith)
+falls (t ∷ []) k more h = absurd (omega arith)
+falls (t ∷ (u ∷ ts)) zero more h = rw (← h 0)
+falls (t ∷ (u ∷ ts)) (suc k) more h =
+    rw (← falls (u ∷ ts) k (omega arith) (λ d. simp add-one (simp add-one at (h d)))) (none (ltb t u))
+  where
+    none : (b : Bool) → false ≡ (b && false)
+    none true = refl
+    none false = refl
 
-  pub rise-not : i + 1 < length ts → get_or ts (i + 1) 0 ≤ get_or ts i 0 → false ≡ rising ts
-  rise-not more less = sym (left ∙ risen ts i more ∙ rw (le-ltb (get_or ts i 0) (get_or ts (i + 1) 0) less))
-
-  -- and so where it is less
-  pub rise-less : i + 1 < length ts → get_or ts (i + 1) 0 < get_or ts i 0 → false ≡ rising ts
-  rise-less more less = rise-not more (omega arith)
-
-  pub rise-all : length ts ≤ i + 1 → true ≡ rising ts
-  unfolding rising
-  rise-all over = sym (left ∙ last (drop i ts) (simp length-drop (omega arith)))
-    where
-      last : (l : List ℕ) → length l ≤ 1 → rising l ≡ true
-      last [] h = refl
-      last (t ∷ []) h = refl
-      last (t ∷ (u ∷ l)) h = absurd (omega arith)
-
--- the ways through `is_list`
-module _ (ws ts : List ℕ) where
-  pub list-unequal : (length ws ≡ length ts → ⊥) → false ≡ is_list ws ts
-  unfolding is_list
-  list-unequal h = rw (ne_eqb (length ws) (length ts) h)
-
-  module _ (even : length ws ≡ length ts) where
-    pub list-long : most_words < length ws → false ≡ is_list ws ts
-    unfolding is_list
-    list-long h = rw (eq-eqb (length ws) (length ts) even, lt-leb (length ws) most_words h)
-
-    pub list-judged : length ws ≤ most_words → (r : Bool) → r ≡ rising ts → r ≡ is_list ws ts
-    unfolding is_list
-    list-judged h r e = e ∙ rw (eq-eqb (length ws) (length ts) even, le-leb (length ws) most_words h)
+-- what std's test of each tick and the next answers
+pub rising-adjacent : (ts : List ℕ) (r : Bool) → IsAllAdjacentAnswer (λ x y b. b ≡ ltb x y) ts r → r ≡ rising ts
+rising-adjacent ts true h = rises ts h
+rising-adjacent ts false (k, more, h) = falls ts k more h
 
 -- what a list is
 module _ (ws ts : List ℕ) (h : is_list ws ts ≡ true) where

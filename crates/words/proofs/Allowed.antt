@@ -46,12 +46,12 @@ unfolding least
 least-others k ne h = others-at least 0 k 28 (tt, ne) h
 
 -- the greatest data of kind j, and of the last kind
-pub greatest-at : (k j v : ℕ) → k ≡ j → v ≡ greatest j → v ≡ greatest k
-greatest-at k j v e is = rw e is
+pub greatest_at : (k j v : ℕ) → k ≡ j → v ≡ greatest j → v ≡ greatest k
+greatest_at k j v e is = rw e is
 
-pub greatest-last : (k : ℕ) → Others (λ k. k) cover k 28 → k < 28 → 0x3FF ≡ greatest k
+pub greatest_last : (k : ℕ) → Others (λ k. k) cover k 28 → k < 28 → 0x3FF ≡ greatest k
 unfolding greatest
-greatest-last k o h = rw (← others-at (λ k. k) cover k 28 o h)
+greatest_last k o h = rw (← others-at (λ k. k) cover k 28 o h)
 
 -- only kinds allow anything
 pub allowed-kind : (k d : ℕ) → allowed k d ≡ true → k < 28

@@ -11,7 +11,8 @@ use lib.Dec.{ltb}
 use Rattle.words.specs.Kinds.{rows, least, greatest, allowed, kind_from, kind_of, kinds}
 use Rattle.words.specs.Codec.{decode_of, judged}
 use Rattle.words.specs.Count.{one, allowed_below}
-use Rattle.words.specs.declared.Decoded.TheVariants.{Unknown}
+use Rattle.std.specs.Prelude.{Err}
+use Rattle.words.specs.declared.DecodeError.TheVariants.{Unknown}
 use Rattle.words.proofs.Allowed.{allowed-none}
 
 -- how many of the data below n are allowed for kind k, and how many words have an identifier below i
@@ -28,7 +29,7 @@ counts : (i d : ℕ) → d < 1024 → one (decode_of (i * 1024 + d)) ≡ one (ju
 unfolding decode_of kinds judged
 counts i d h = rw (digits_div i {m = 1024} h, digits_mod i {m = 1024} h) (go (ltb (kind_of i) 28) refl)
   where
-    go : (b : Bool) → ltb (kind_of i) 28 ≡ b → one (cond (ltb (kind_of i) 28) (judged (kind_of i) d) Unknown) ≡ one (judged (kind_of i) d)
+    go : (b : Bool) → ltb (kind_of i) 28 ≡ b → one (cond (ltb (kind_of i) 28) (judged (kind_of i) d) (Err Unknown)) ≡ one (judged (kind_of i) d)
     go true p = rw p
     go false p = rw (p, ← allowed-none (kind_of i) d (ltb-false (kind_of i) 28 p))
 

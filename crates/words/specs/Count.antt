@@ -1,14 +1,13 @@
 -- How many words are allowed.
 -- Assumes nothing.
-use Rattle.std.specs.Prelude.{ℕ, zero, suc, ◌+◌}
+use Rattle.std.specs.Prelude.{ℕ, zero, suc, ◌+◌, Result, Ok, Err}
 use Rattle.words.specs.Codec.{decode_of}
-use Rattle.words.specs.declared.Decoded.{Decoded}
-use Rattle.words.specs.declared.Decoded.TheVariants.{Word, Unknown, OutOfRange}
+use Rattle.words.specs.declared.Word.{Word}
+use Rattle.words.specs.declared.DecodeError.{DecodeError}
 
-abbrev pub one : Decoded → ℕ
-one (Word k d) = 1
-one Unknown = 0
-one (OutOfRange k) = 0
+abbrev pub one : Result Word DecodeError → ℕ
+one (Ok w) = 1
+one (Err e) = 0
 
 -- how many of the words below n are allowed
 unfoldable pub allowed_below : ℕ → ℕ

@@ -4,6 +4,7 @@ ghost use Rattle.words.specs.Kinds.{group_of};
 
 use crate::kinds::KINDS;
 
+// Groups are numbers, since C passes one and `group_of` answers for any kind.
 pub const CCD: u8 = 0;
 
 pub const INFRARED: u8 = 1;
@@ -44,7 +45,7 @@ const GROUP: [u8; 28] = [
     INFRARED, // COVER
 ];
 
-// The group of a kind.
+// The group of a kind, which is a number, since callers, C among them, may pass any.
 pub fn group_of(kind: u8) -> u8
     ensures { result ≡ group_of kind }
 {

@@ -1,4 +1,5 @@
-// The 28 kinds of command word, numbered in the order of document 01's table read row by row.
+// The 28 kinds of command word, numbered in the order of document 01's table read row by row. A kind is a number and no enum: callers, C among
+// them, may ask about any number, and `allows`, `encode` and `group_of` answer for each.
 pub const NOP: u8 = 0;
 
 pub const START: u8 = 1;

@@ -7,7 +7,7 @@ pub mod upper_byte;
 
 ghost use Rattle.std.specs.Prelude.{◌≡◌, ◌<◌};
 ghost use Rattle.words.specs.Kinds.{allowed, greatest, identifier, kind_of, least};
-ghost use Rattle.words.specs.Codec.{decode_of, encode_of, decoded_number, encoded_number, finding_number, encoding_number};
+ghost use Rattle.words.specs.Codec.{decode_error_number, encode_error_number, meaning_of, decode_of, encode_of, decoded_number, encoded_number, finding_number, encoding_number};
 
 use kinds::{
     ANNEALING, CCD_DELAY, CCD_EXPO, CCD_LAMP, COS_L, COS_M, COVER, HK, IR_DELAY, IR_DETECTOR,
@@ -48,41 +48,46 @@ const IDENTIFIER: [u16; 28] = [
     0x04, // COVER
 ];
 
-// What a word means.
-#[derive(Clone, Copy)]
-pub enum Decoded {
-    Word { kind: u8, bits: u16 },
+// A known kind, and data that it allows.
+#[derive(Clone, Copy, Debug, PartialEq, Eq)]
+pub struct Word {
+    pub kind: u8,
+    pub bits: u16,
+}
+
+// Why a word means nothing: its identifier is no kind's, or the kind does not allow its data.
+#[derive(Clone, Copy, Debug, PartialEq, Eq)]
+pub enum DecodeError {
     Unknown,
     OutOfRange { kind: u8 },
 }
 
-// The word of a kind and its data.
-#[derive(Clone, Copy)]
-pub enum Encoded {
-    Made(u16),
-    Refused,
+// Why a kind and its data have no word: the kind does not allow the data.
+#[derive(Clone, Copy, Debug, PartialEq, Eq)]
+pub enum EncodeError {
+    OutOfRange,
 }
 
-// Document 01's numbers; 0 where there is nothing to refuse.
-impl Decoded {
+// Document 01's numbers.
+impl DecodeError {
+    #[tactic(auto, unfolding(crate::specs::Codec::decode_error_number))]
     pub fn number(self) -> u8
-        ensures { result ≡ decoded_number self }
+        ensures { result ≡ decode_error_number self }
     {
         match self {
-            Decoded::Word { kind: _, bits: _ } => 0,
-            Decoded::Unknown => 23,
-            Decoded::OutOfRange { kind: _ } => 24,
+            DecodeError::Unknown => 23,
+            DecodeError::OutOfRange { kind: _ } => 24,
         }
     }
 }
 
-impl Encoded {
+impl EncodeError {
+    #[tactic(auto, unfolding(crate::specs::Codec::encode_error_number))]
     pub fn number(self) -> u8
-        ensures { result ≡ encoded_number self }
+        ensures { result ≡ encode_error_number self }
     {
         match self {
-            Encoded::Made(_) => 0,
-            Encoded::Refused => 24,
+            EncodeError::OutOfRange => 24,
         }
     }
 }
@@ -100,6 +105,7 @@ fn least(kind: u8) -> u16
 }
 
 // The greatest data of each kind.
+#[tactic(auto, using(crate::proofs::Allowed::greatest_at, crate::proofs::Allowed::greatest_last), unfolding(crate::specs::Kinds::greatest))]
 fn greatest(kind: u8) -> u16
     requires { kind < 28 }
     ensures { result ≡ greatest kind }
@@ -136,7 +142,8 @@ fn greatest(kind: u8) -> u16
     }
 }
 
-// Whether a word of this kind may hold these data. A number that is no kind allows none.
+// Whether a word of this kind may hold these data. A number that is no kind allows none: a kind is a number here and below, since callers,
+// C among them, may pass any.
 pub fn allows(kind: u8, bits: u16) -> bool
     ensures { result ≡ allowed kind bits }
 {
@@ -148,6 +155,7 @@ pub fn allows(kind: u8, bits: u16) -> bool
 }
 
 // The kind of a word's identifier; NONE where no kind has it.
+#[tactic(auto, using(crate::proofs::Codec::kind_at, crate::proofs::Codec::no_kind), unfolding(crate::specs::Kinds::kind_of, crate::specs::Kinds::kind_from, crate::specs::Kinds::rows))]
 pub fn kind_of(word: u16) -> u8
     ensures { result ≡ kind_of (identifier word) }
 {
@@ -184,29 +192,34 @@ pub fn kind_of(word: u16) -> u8
     }
 }
 
-pub fn decode(word: u16) -> Decoded
-    ensures value { result ≡ decode_of word }
-    ensures result_value { decoded_number result ≡ finding_number word }
+// What the data of a word mean under the kind of its identifier; NONE has no words.
+fn meaning(kind: u8, bits: u16) -> Result<Word, DecodeError>
+    ensures { result ≡ meaning_of kind bits }
 {
-    let kind = kind_of(word);
     if KINDS <= kind {
-        return Decoded::Unknown;
+        return Err(DecodeError::Unknown);
     }
-    let bits = word % 1024;
     if allows(kind, bits) {
-        Decoded::Word { kind, bits }
+        Ok(Word { kind, bits })
     } else {
-        Decoded::OutOfRange { kind }
+        Err(DecodeError::OutOfRange { kind })
     }
 }
 
-pub fn encode(kind: u8, bits: u16) -> Encoded
+pub fn decode(word: u16) -> Result<Word, DecodeError>
+    ensures value { result ≡ decode_of word }
+    ensures result_value { decoded_number result ≡ finding_number word }
+{
+    meaning(kind_of(word), word % 1024)
+}
+
+pub fn encode(kind: u8, bits: u16) -> Result<u16, EncodeError>
     ensures value { result ≡ encode_of kind bits }
     ensures result_value { encoded_number result ≡ encoding_number kind bits }
 {
     if allows(kind, bits) {
-        Encoded::Made(IDENTIFIER[kind as usize] * 1024 + bits)
+        Ok(IDENTIFIER[kind as usize] * 1024 + bits)
     } else {
-        Encoded::Refused
+        Err(EncodeError::OutOfRange)
     }
 }

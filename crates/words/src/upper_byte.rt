@@ -5,10 +5,10 @@ ghost use Rattle.words.specs.UpperByte.{kind_of_byte};
 
 use crate::kinds::{
     ANNEALING, CCD_DELAY, CCD_EXPO, CCD_LAMP, COS_L, COS_M, COVER, HK, IR_DELAY, IR_DETECTOR,
-    IR_EXPO, IR_LAMP, IR_WIN_MODE, KINDS, NONE, NOP, SHUTTER, SIN_L, SIN_M, START, STOP, SWITCH,
+    IR_EXPO, IR_LAMP, IR_WIN_MODE, NONE, NOP, SHUTTER, SIN_L, SIN_M, START, STOP, SWITCH,
     VDETADJ_L, VDETADJ_M, VDETCOM_L, VDETCOM_M, WIN_X1, WIN_X2, WIN_Y1, WIN_Y2,
 };
-use crate::{Decoded, allows};
+use crate::{DecodeError, Word, meaning};
 
 // The kind of the words with each upper byte, or NONE where no kind has their identifier. Four bytes in a row have the same identifier.
 const KIND_OF_BYTE: [u8; 256] = [
@@ -294,18 +294,9 @@ pub fn kind_of_byte(byte: u8) -> u8
 }
 
 // Unknown, out of range and a word as in the first decoder, by the same judging of data.
-pub fn decode_by_byte(word: u16) -> Decoded
+pub fn decode_by_byte(word: u16) -> Result<Word, DecodeError>
     ensures value { result ≡ decode_of word }
     ensures result_value { decoded_number result ≡ finding_number word }
 {
-    let kind = kind_of_byte((word / 256) as u8);
-    if KINDS <= kind {
-        return Decoded::Unknown;
-    }
-    let bits = word % 1024;
-    if allows(kind, bits) {
-        Decoded::Word { kind, bits }
-    } else {
-        Decoded::OutOfRange { kind }
-    }
+    meaning(kind_of_byte((word / 256) as u8), word % 1024)
 }

@@ -1,13 +1,9 @@
--- `timed::rise` meets its contract. The loop's invariant: the list rises if it does from i on.
-use Rattle.timed.proofs.Rising.{rise-more, rise-not, rise-less, rise-all}
+-- `timed::rise` meets its contract: std's method asks the closure for each tick and the next.
 use borrow.Author.Rules.{rules}
+use lib.Dec.{ltb}
+use Rattle.std.proofs.lemmas.List.Sorted.{answers_always}
+use Rattle.timed.proofs.Rising.{rising-adjacent}
 use Rattle.timed.proofs.rise.Goals as goal
 
-pub returns-then-ticks-i : goal.returns-then-ticks-i
-returns-then-ticks-i c = search (rules, rise-not, rise-less)
-
-pub loop-i-preserved : goal.loop-i-preserved
-loop-i-preserved c = search (rules, rise-more)
-
 pub returns : goal.returns
-returns c = search (rules, rise-all)
+returns c = rising-adjacent _ _ (c.is_sorted_by.ensures.cases ltb (answers_always _ _ _ (λ f a r g h. search rules)))

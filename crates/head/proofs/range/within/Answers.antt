@@ -10,7 +10,7 @@ pub loop-i-init : goal.loop-i-init
 loop-i-init c = record { some = omega arith; left = refl }
 
 pub loop-i-preserved : goal.loop-i-preserved
-loop-i-preserved c = within_more c.loop-i.invariant (omega arith) (omega arith) c.over-excess.ensures
+loop-i-preserved c = within_more c.loop-i.invariant (omega arith) (omega arith) c.saturating_sub-excess.ensures
 
 pub returns : goal.returns
 unfolding most greatest rows

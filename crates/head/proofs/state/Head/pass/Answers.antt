@@ -1,7 +1,6 @@
 -- `head::state::Head::pass` meets its contract.
 use mathlib.Core.Path.{sym, ◌∙◌}
-use Rattle.head.proofs.Ticks.{ticks-elapsed}
-use Rattle.head.proofs.Passing.{ticks-out}
+use Rattle.head.proofs.Ticks.{ticks-elapsed, ticks-out}
 use Rattle.head.proofs.state.Head.pass.Goals as goal
 
 pub returns-then-in_range : goal.returns-then-in_range
