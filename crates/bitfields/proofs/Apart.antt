@@ -3,8 +3,9 @@
 use Rattle.std.proofs.Common.{◌≡◌, ℕ, zero, suc, ◌+◌, ◌<◌, ◌≤◌, Bool, true, false, ◌&&◌, ◌||◌, ltb, leb, List, [], ◌∷◌, length, get_or, sym, refl, ap, ◌∙◌, true≢false, arith, ltb-true, le-ltb, lt-ltb, le-leb, leb-true}
 use mathlib.Core.Bool.{and-false, or-true}
 use borrow.Author.Tests.{lt-leb}
-use Rattle.words.proofs.Tests.{and_left, and_right}
-use Rattle.bitfields.specs.Fields.{Field, field, has_bit, NoBitShared}
+use Rattle.std.proofs.lemmas.Bool.{and_parts}
+use Rattle.bitfields.specs.declared.Field.{Field}
+use Rattle.bitfields.specs.Fields.{field, has_bit, NoBitShared}
 
 -- the first bit above a field
 abbrev pub above : Field → ℕ
@@ -28,11 +29,11 @@ some_has (f ∷ fs) b = has_bit f b || some_has fs b
 module _ (f : Field) (b : ℕ) where
   has-from : has_bit f b ≡ true → f.lowest ≤ b
   unfolding has_bit
-  has-from e = leb-true f.lowest b (and_left (leb f.lowest b) (ltb b (above f)) e)
+  has-from e = leb-true f.lowest b (and_parts (leb f.lowest b) (ltb b (above f)) e).0
 
   has-to : has_bit f b ≡ true → b < above f
   unfolding has_bit
-  has-to e = ltb-true b (above f) (and_right (leb f.lowest b) (ltb b (above f)) e)
+  has-to e = ltb-true b (above f) (and_parts (leb f.lowest b) (ltb b (above f)) e).1
 
   pub has_within : f.lowest ≤ b → b < above f → has_bit f b ≡ true
   unfolding has_bit
@@ -59,7 +60,7 @@ unfolding apart some_has
 no-other-has f [] b e has = refl
 no-other-has f (g ∷ gs) b e has =
     let t = leb (above f) g.lowest || leb (above g) f.lowest in
-    rw (one_has f g b (and_left t (apart f gs) e) has) (no-other-has f gs b (and_right t (apart f gs) e) has)
+    rw (one_has f g b (and_parts t (apart f gs) e).0 has) (no-other-has f gs b (and_parts t (apart f gs) e).1 has)
 
 some-has : (fs : List Field) (j b : ℕ) → j < length fs → has_bit (get_or fs j (field 0 0)) b ≡ true → some_has fs b ≡ true
 unfolding some_has
@@ -77,8 +78,8 @@ unfolding NoBitShared all_apart
 no-bit-shared [] e i j b hi hj has has' = absurd (omega arith)
 no-bit-shared (f ∷ fs) e zero zero b hi hj has has' = refl
 no-bit-shared (f ∷ fs) e zero (suc j) b hi hj has has' =
-    absurd (not-both f fs j b (and_left (apart f fs) (all_apart fs) e) (omega arith) has has')
+    absurd (not-both f fs j b (and_parts (apart f fs) (all_apart fs) e).0 (omega arith) has has')
 no-bit-shared (f ∷ fs) e (suc i) zero b hi hj has has' =
-    absurd (not-both f fs i b (and_left (apart f fs) (all_apart fs) e) (omega arith) has' has)
+    absurd (not-both f fs i b (and_parts (apart f fs) (all_apart fs) e).0 (omega arith) has' has)
 no-bit-shared (f ∷ fs) e (suc i) (suc j) b hi hj has has' =
-    ap suc (no-bit-shared fs (and_right (apart f fs) (all_apart fs) e) i j b (omega arith) (omega arith) has has')
+    ap suc (no-bit-shared fs (and_parts (apart f fs) (all_apart fs) e).1 i j b (omega arith) (omega arith) has has')

@@ -1,8 +1,9 @@
 -- A word that is composed of values holds them, each in its field's width.
 -- Assumes nothing.
 use Rattle.std.proofs.Common.{◌≡◌, ℕ, ◌+◌, ◌-◌, ◌/◌, ◌%◌, ◌^◌, ◌<◌, Bool, true, false, List, [], ◌∷◌, length, sym, refl, ap, ◌∙◌, ap₂, true≢false, arith}
-use Rattle.words.proofs.Tests.{and_left, and_right}
-use Rattle.bitfields.specs.Fields.{Field, composed, values_in, bit_at, has_bit, bit_put}
+use Rattle.std.proofs.lemmas.Bool.{and_parts}
+use Rattle.bitfields.specs.declared.Field.{Field}
+use Rattle.bitfields.specs.Fields.{composed, values_in, bit_at, has_bit, bit_put}
 use Rattle.bitfields.proofs.Bits.{bit-shr, same_bits}
 use Rattle.bitfields.proofs.Apart.{apart, all_apart, some_has, has_within, no-other-has}
 use Rattle.bitfields.proofs.Written.{bits-written}
@@ -33,8 +34,8 @@ unfolding all_apart values_in held
 holds-put [] vs w e sized h = refl
 holds-put (f ∷ fs) [] w e sized h = absurd (omega arith)
 holds-put (f ∷ fs) (v ∷ vs) w e sized h =
-    let first = and_left (apart f fs) (all_apart fs) e in
-    let later = and_right (apart f fs) (all_apart fs) e in
+    let first = (and_parts (apart f fs) (all_apart fs) e).0 in
+    let later = (and_parts (apart f fs) (all_apart fs) e).1 in
     ap₂ (λ (x : ℕ) (xs : List ℕ). x ∷ xs) (same_bits f.width (w / 2 ^ f.lowest) v (first-put f fs v vs w h))
     (holds-put fs vs w later (omega arith) (λ b. rest_put f fs v vs w h first b (has_bit f b) refl))
 

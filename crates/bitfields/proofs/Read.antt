@@ -1,7 +1,8 @@
 -- The value that a word holds in a field, bit by bit.
 -- Assumes nothing.
 use Rattle.std.proofs.Common.{◌≡◌, ℕ, zero, suc, ◌+◌, ◌/◌, ◌^◌, ◌<◌, ◌≤◌, Bool, true, false, cond, ltb, List, [], ◌∷◌, refl, ◌∙◌, mod-lt, arith, pow_pos, ltb-false, ltb-true, lt-ltb}
-use Rattle.bitfields.specs.Fields.{Field, value_in, bit_at, drawn}
+use Rattle.bitfields.specs.declared.Field.{Field}
+use Rattle.bitfields.specs.Fields.{value_in, bit_at, drawn}
 use Rattle.bitfields.proofs.Bits.{bit-shr, bit_kept, bit-over}
 
 -- what a field holds fits it

@@ -1,92 +1,71 @@
--- A table in the code, row by row: what a turn of each loop gives.
+-- What the code makes of a table, row by row.
 -- Assumes nothing.
-use Rattle.std.proofs.Common.{◌≡◌, ℕ, zero, suc, ◌+◌, ◌%◌, ◌^◌, ◌<◌, ◌≤◌, min, List, [], ◌∷◌, length, get_or, drop, set, sym, refl, ap, ◌∙◌, ap₂, add-zero, add_assoc, mod-lt, mod-eq_of_lt, le_antisymm, zero-add, add-one, arith, length-set, drop-cons, pow_pos}
-use native.Mathlib.Nat.{mod-add-mod, add-mod-mod, min-le_left, min-le_right, suc-min-suc}
-use lib.Seq.{paste, paste-suc}
-use Rattle.bitfields.specs.Fields.{Field, placed_in, composed, value_in, values_in}
-use Rattle.bitfields.specs.Rows.{field_in, fields_in}
+use Rattle.std.proofs.Common.{◌≡◌, ℕ, zero, suc, ◌+◌, ◌%◌, ◌<◌, min, List, [], ◌∷◌, length, get_or, drop, set, sym, refl, ap, ◌∙◌, add-zero, zero-add, add_assoc, mod-eq_of_lt, add-one, arith, drop-cons, append-nil, drop_of_length-le}
+use native.Mathlib.Nat.{mod-add-mod, add-mod-mod, suc-min-suc}
+use Rattle.std.proofs.lemmas.List.Edits.{paste_more, paste_all}
+use lib.Seq.{paste}
+use Rattle.bitfields.specs.declared.Field.{Field}
+use Rattle.bitfields.specs.Fields.{field, placed_in, composed, value_in, values_in}
 
 -- what is composed from row i on
-module _ (rows : List (List ℕ)) (vs : List ℕ) (i : ℕ) where
+module _ (fs : List Field) (vs : List ℕ) (i : ℕ) where
   abbrev pub from : ℕ
-  from = composed (fields_in (drop i rows)) (drop i vs)
+  from = composed (drop i fs) (drop i vs)
 
-  abbrev at_row : ℕ
-  at_row = placed_in (field_in (get_or rows i [])) (get_or vs i 0)
+  from-row : i < length fs → i < length vs → from ≡ placed_in (get_or fs i (field 0 0)) (get_or vs i 0) + composed (drop (suc i) fs) (drop (suc i) vs)
+  unfolding composed
+  from-row h h' = rw (drop-cons fs i (field 0 0) h, drop-cons vs i 0 h')
 
-from_row : (rows : List (List ℕ)) (vs : List ℕ) (i : ℕ) → i < length rows → i < length vs
-    → from rows vs i ≡ at_row rows vs i + from rows vs (suc i)
+from-end : (fs : List Field) (vs : List ℕ) (i : ℕ) → i ≡ min (length fs) (length vs) → from fs vs i ≡ 0
 unfolding composed
-from_row rows vs i h h' = rw (drop-cons rows i [] h, drop-cons vs i 0 h')
+from-end [] vs zero h = refl
+from-end [] vs (suc i) h = refl
+from-end (f ∷ fs) [] zero h = refl
+from-end (f ∷ fs) [] (suc i) h = absurd (omega arith)
+from-end (f ∷ fs) (v ∷ vs) zero h = absurd (omega (arith, suc-min-suc (length fs) (length vs)))
+from-end (f ∷ fs) (v ∷ vs) (suc i) h = from-end fs vs i (omega (arith, suc-min-suc (length fs) (length vs)))
 
-no-values : (fs : List Field) → composed fs [] ≡ 0
-unfolding composed
-no-values [] = refl
-no-values (f ∷ fs) = refl
+-- a turn adds its row's value to a sum that wraps
+pub turn : (m : ℕ) (fs : List Field) (vs : List ℕ) (i w p r t : ℕ) → i < length fs → i < length vs
+    → (w + from fs vs i) % m ≡ t → p ≡ placed_in (get_or fs i (field 0 0)) (get_or vs i 0) % m → r ≡ (w + p) % m
+    → (r + from fs vs (i + 1)) % m ≡ t
+turn m fs vs i w p r t h h' e ep er =
+    let x = placed_in (get_or fs i (field 0 0)) (get_or vs i 0) in
+    let rest = from fs vs (suc i) in
+    let sum : r ≡ (w + x) % m = er ∙ ap (λ (y : ℕ). (w + y) % m) ep ∙ add-mod-mod w x m in
+    rw (sum, add-one i, mod-add-mod (w + x) m rest, add_assoc w x rest, ← from-row fs vs i h h') e
 
-from_end : (rows : List (List ℕ)) (vs : List ℕ) (i : ℕ) → min (length rows) (length vs) ≤ i → from rows vs i ≡ 0
-unfolding composed
-from_end [] vs zero h = refl
-from_end [] vs (suc i) h = refl
-from_end (r ∷ rs) [] zero h = refl
-from_end (r ∷ rs) [] (suc i) h = no-values (fields_in (drop i rs))
-from_end (r ∷ rs) (v ∷ vs) zero h = absurd (omega (arith, suc-min-suc (length rs) (length vs)))
-from_end (r ∷ rs) (v ∷ vs) (suc i) h = from_end rs vs i (omega (arith, suc-min-suc (length rs) (length vs)))
-
--- a row's value that is added to a sum that wraps
-pub wrapped : (m w p q r : ℕ) → q ≡ p % m → r ≡ (w + q) % m → r ≡ (w + p) % m
-wrapped m w p q r eq er = er ∙ ap (λ (x : ℕ). (w + x) % m) eq ∙ add-mod-mod w p m
-
-pub compose-begun : (m : ℕ) (rows : List (List ℕ)) (vs : List ℕ) → (0 + from rows vs 0) % m ≡ composed (fields_in rows) vs % m
-compose-begun m rows vs = ap (λ (x : ℕ). x % m) (zero-add (composed (fields_in rows) vs))
-
--- a turn adds a row's value
-pub compose-turn : (m : ℕ) (rows : List (List ℕ)) (vs : List ℕ) (n i w r t : ℕ) → i < n → n ≤ length rows → n ≤ length vs
-    → (w + from rows vs i) % m ≡ t → r ≡ (w + at_row rows vs i) % m → (r + from rows vs (i + 1)) % m ≡ t
-compose-turn m rows vs n i w r t more left right e er =
-    let row = at_row rows vs i in
-    let rest = from rows vs (suc i) in
-    rw (er, add-one i, mod-add-mod (w + row) m rest, add_assoc w row rest, ← from_row rows vs i (omega arith) (omega arith)) e
-
-pub compose-word : (m x r : ℕ) → r ≡ x % 2 ^ m → r < 2 ^ m
-compose-word m x r e = rw e (mod-lt x (pow_pos m))
-
-pub compose-done : (m : ℕ) (rows : List (List ℕ)) (vs : List ℕ) (n i w t : ℕ) → n ≡ min (length rows) (length vs) → n ≤ i
-    → (w + from rows vs i) % m ≡ t → w < m → w ≡ t
-compose-done m rows vs n i w t sized h e small =
-    sym (mod-eq_of_lt small) ∙ (rw (from_end rows vs i (rw sized at h), add-zero w) at e)
+pub ended : (m : ℕ) (fs : List Field) (vs : List ℕ) (i w t : ℕ) → i ≡ min (length fs) (length vs) → (w + from fs vs i) % m ≡ t → w < m → w ≡ t
+ended m fs vs i w t all e small = sym (mod-eq_of_lt small) ∙ (rw (from-end fs vs i all, add-zero w) at e)
 
 -- the values in a table's order
-pub values_length : (rows : List (List ℕ)) (w : ℕ) → length (values_in (fields_in rows) w) ≡ length rows
+pub values-length : (fs : List Field) (w : ℕ) → length (values_in fs w) ≡ length fs
 unfolding values_in
-values_length [] w = refl
-values_length (r ∷ rs) w = ap suc (values_length rs w)
+values-length [] w = refl
+values-length (f ∷ fs) w = ap suc (values-length fs w)
 
-value-at : (rows : List (List ℕ)) (w i : ℕ) → i < length rows → get_or (values_in (fields_in rows) w) i 0 ≡ value_in (field_in (get_or rows i [])) w
+value-at : (fs : List Field) (w i : ℕ) → i < length fs → get_or (values_in fs w) i 0 ≡ value_in (get_or fs i (field 0 0)) w
 unfolding values_in
 value-at [] w i h = absurd (omega arith)
-value-at (r ∷ rs) w zero h = refl
-value-at (r ∷ rs) w (suc i) h = value-at rs w i (omega arith)
+value-at (f ∷ fs) w zero h = refl
+value-at (f ∷ fs) w (suc i) h = value-at fs w i (omega arith)
 
 -- a turn stores a row's value
-pub read-turn : (rows : List (List ℕ)) (d₀ d : List ℕ) (w n i x : ℕ) → i < n → n ≤ length rows → n ≤ length d₀
-    → d ≡ paste d₀ 0 (values_in (fields_in rows) w) i → x ≡ value_in (field_in (get_or rows i [])) w
-    → set d i x ≡ paste d₀ 0 (values_in (fields_in rows) w) (i + 1)
-read-turn rows d₀ d w n i x more left right e ex =
-    let vs = values_in (fields_in rows) w in
-    let stored : set (paste d₀ 0 vs i) i (get_or vs i 0) ≡ paste d₀ 0 vs (suc i) =
-    ap (λ (k : ℕ). set (paste d₀ 0 vs i) k (get_or vs i 0)) (sym (zero-add i)) ∙ paste-suc d₀ 0 vs i 0 (omega arith) (omega (arith, values_length rows w)) in
-    ap₂ (λ (l : List ℕ) (y : ℕ). set l i y) e (ex ∙ sym (value-at rows w i (omega arith))) ∙ stored ∙ ap (paste d₀ 0 vs) (sym (add-one i))
+pub read-turn : (fs : List Field) (d₀ d : List ℕ) (w i x : ℕ) → i < length fs → i < length d₀
+    → d ≡ paste d₀ 0 (values_in fs w) i → x ≡ value_in (get_or fs i (field 0 0)) w
+    → set d i x ≡ paste d₀ 0 (values_in fs w) (i + 1)
+read-turn fs d₀ d w i x row place e ex =
+    let vs = values_in fs w in
+    let more : set (paste d₀ 0 vs i) i (get_or vs i 0) ≡ paste d₀ 0 vs (i + 1) =
+    ap (λ (k : ℕ). set (paste d₀ 0 vs i) k (get_or vs i 0)) (sym (zero-add i)) ∙ paste_more d₀ 0 vs i 0 (omega arith) (rw (values-length fs w) row) in
+    rw (e, ex, ← value-at fs w i row) more
 
-pub kept : (d d₀ : List ℕ) (i v : ℕ) → length d ≡ length d₀ → length (set d i v) ≡ length d₀
-kept d d₀ i v e = length-set d i v ∙ e
-
-pub read_done : (d₀ d s : List ℕ) (m n i : ℕ) → d ≡ paste d₀ 0 s i → n ≡ m → i ≤ n → n ≤ i → d ≡ paste d₀ 0 s m
-read_done d₀ d s m n i e sized h h' = rw (← sized, ← le_antisymm h h') e
-
--- as many as the shorter list has
-pub shorter-left : (a b n : ℕ) → n ≡ min a b → n ≤ a
-shorter-left a b n e = rw e (min-le_left a b)
-
-pub shorter-right : (a b n : ℕ) → n ≡ min a b → n ≤ b
-shorter-right a b n e = rw e (min-le_right a b)
+-- a row for each place
+pub read-whole : (fs : List Field) (w : ℕ) (d d₀ : List ℕ) → length d₀ ≡ length fs
+    → d ≡ paste d₀ 0 (values_in fs w) (min (length fs) (length d₀)) → d ≡ values_in fs w
+read-whole fs w d d₀ sized e =
+    let vs = values_in fs w in
+    let n = min (length fs) (length d₀) in
+    let whole : n ≡ length vs = omega (arith, values-length fs w, sized) in
+    let none : drop (0 + n) d₀ ≡ [] = drop_of_length-le d₀ {i = 0 + n} (omega (arith, sized)) in
+    e ∙ paste_all d₀ 0 vs n whole ∙ rw none (append-nil vs)

@@ -1,8 +1,9 @@
 -- The word that is composed of values, bit by bit.
 -- Assumes nothing.
 use Rattle.std.proofs.Common.{◌≡◌, ℕ, zero, suc, ◌+◌, ◌-◌, ◌*◌, ◌%◌, ◌^◌, ◌≤◌, Bool, true, false, cond, ◌&&◌, ltb, leb, List, [], ◌∷◌, refl, ap, ◌∙◌, add-zero, mod-lt, mod-eq_of_lt, zero-add, arith, pow_pos, ltb-false, ltb-true, leb-false, leb-true}
-use Rattle.words.proofs.Tests.{and_left, and_right, or_left, or_right}
-use Rattle.bitfields.specs.Fields.{Field, placed_in, composed, bit_at, has_bit, bit_put, drawn}
+use Rattle.std.proofs.lemmas.Bool.{and_parts, or_parts}
+use Rattle.bitfields.specs.declared.Field.{Field}
+use Rattle.bitfields.specs.Fields.{placed_in, composed, bit_at, has_bit, bit_put, drawn}
 use Rattle.bitfields.proofs.Bits.{bit-most, bit-shl, bit_below, bit_kept, bit-over, bit-sum, bits_below}
 use Rattle.bitfields.proofs.Apart.{above, apart, all_apart, some_has, has_within, has-not-below, has-not-above, no-other-has}
 
@@ -36,7 +37,7 @@ put-nothing : (fs : List Field) (vs : List ℕ) (b : ℕ) → some_has fs b ≡ 
 unfolding some_has bit_put
 put-nothing [] vs b e = refl
 put-nothing (f ∷ fs) [] b e = refl
-put-nothing (f ∷ fs) (v ∷ vs) b e = rw (or_left (has_bit f b) (some_has fs b) e) (put-nothing fs vs b (or_right (has_bit f b) (some_has fs b) e))
+put-nothing (f ∷ fs) (v ∷ vs) b e = rw (or_parts (has_bit f b) (some_has fs b) e).0 (put-nothing fs vs b (or_parts (has_bit f b) (some_has fs b) e).1)
 
 -- one field more
 module _ (f : Field) (fs : List Field) (v : ℕ) (vs : List ℕ) (e : apart f fs ≡ true) (later : (b : ℕ) → bit_at (composed fs vs) b ≡ bit_put fs vs b) where
@@ -56,8 +57,8 @@ unfolding composed bit_put all_apart
 bits-written [] vs e b = bit-over 0 0 b (omega arith) (omega arith)
 bits-written (f ∷ fs) [] e b = bit-over 0 0 b (omega arith) (omega arith)
 bits-written (f ∷ fs) (v ∷ vs) e b =
-    let first = and_left (apart f fs) (all_apart fs) e in
-    let later = bits-written fs vs (and_right (apart f fs) (all_apart fs) e) in
+    let first = (and_parts (apart f fs) (all_apart fs) e).0 in
+    let later = bits-written fs vs (and_parts (apart f fs) (all_apart fs) e).1 in
     bit-sum b (placed_in f v) (composed fs vs) (λ d. no-carry f fs v vs first later d (has_bit f d) refl)
     ∙ with-field f fs v vs first later b (has_bit f b) refl
 
@@ -80,8 +81,8 @@ none_above : (n : ℕ) (fs : List Field) → all_below n fs ≡ true → (b : �
 unfolding all_below some_has
 none_above n [] e b h = refl
 none_above n (f ∷ fs) e b h =
-    let top = leb-true (above f) n (and_left (leb (above f) n) (all_below n fs) e) in
-    rw (has-not-above f b (omega arith)) (none_above n fs (and_right (leb (above f) n) (all_below n fs) e) b h)
+    let top = leb-true (above f) n (and_parts (leb (above f) n) (all_below n fs) e).0 in
+    rw (has-not-above f b (omega arith)) (none_above n fs (and_parts (leb (above f) n) (all_below n fs) e).1 b h)
 
 pub composed-fits : (n : ℕ) (fs : List Field) (vs : List ℕ) → all_apart fs ≡ true → all_below n fs ≡ true → composed fs vs % 2 ^ n ≡ composed fs vs
 composed-fits n fs vs e below =

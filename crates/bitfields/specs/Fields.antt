@@ -1,10 +1,7 @@
 -- Bit fields of a word, bit 0 being its lowest: a table gives each field's lowest bit and width.
 -- Assumes nothing.
 use Rattle.std.specs.Prelude.{◌≡◌, ℕ, zero, suc, ◌+◌, ◌-◌, ◌*◌, ◌/◌, ◌%◌, ◌^◌, ◌<◌, Bool, true, cond, ◌&&◌, List, [], ◌∷◌, length, ◌==◌, nat_le, nat_lt, slice_index_or}
-
-pub record Field : Type 0 where
-  pub lowest : ℕ
-  pub width : ℕ
+use Rattle.bitfields.specs.declared.Field.{Field}
 
 abbrev pub field : ℕ → ℕ → Field
 field l w = record { lowest = l; width = w }

@@ -8,6 +8,7 @@ use native.Mathlib.Omega.{arith}
 use borrow.Author.Tests.{eq-eqb, eqb-true, le-leb, leb-true}
 use lib.ListN.{length, get_or, take}
 use lib.Seq.{take_at}
+use Rattle.std.specs.Prelude.{Ok, Err}
 use Rattle.words.specs.Kinds as kind
 use Rattle.words.specs.Kinds.{rows, least, greatest, allowed}
 use Rattle.head.specs.Range.{in_range}
@@ -16,15 +17,13 @@ use Rattle.head.specs.declared.state.Flags.{Flags}
 use Rattle.head.proofs.Bounds.{bounds, allowed-least, allowed-most}
 use Rattle.status.specs.Status.{sine_word, sine_in, sine_right, vis_flag_word, vis_flags_in, vis_flags_right}
 use Rattle.status.proofs.Fields.{sine-back, sine-fits, vis-flags-back}
-use Rattle.blocks.specs.Ccd.{ccd_shown, ccd_status, ccd_block_of, cosine_right, ccd_said, ccd_rest_judged, ccd_judged, ccd_answer_of, ccd_readings_of, ccd_read, ccd_read_of}
-use Rattle.blocks.specs.declared.refusal.Refusal.{Refusal}
+use Rattle.blocks.specs.Ccd.{ccd_shown, ccd_status, ccd_block_of, cosine_right, ccd_said, ccd_rest_judged, ccd_judged, ccd_answer_of, ccd_block, ccd_read_of}
 use Rattle.blocks.specs.declared.refusal.Refusal.TheVariants.{Length}
 use Rattle.blocks.specs.declared.ccd.CcdBits.{CcdBits}
 use Rattle.blocks.specs.declared.ccd.Window.{Window}
 use Rattle.blocks.specs.declared.ccd.CcdMeaning.{CcdMeaning}
-use Rattle.blocks.specs.declared.ccd.CcdRead.{CcdRead}
-use Rattle.blocks.specs.declared.ccd.CcdAnswer.TheVariants.{Block, Refused}
-use Rattle.blocks.proofs.Parts.{status-judged, words, put-together, held, later, within-allowed}
+use Rattle.blocks.specs.declared.ccd.CcdBlock.{CcdBlock}
+use Rattle.blocks.proofs.Parts.{status-judged, words, put-together, held, later, said_same, made_of, within-allowed}
 
 -- what a CCD block can say
 pub record CcdFits (m : CcdMeaning) : Type 0 where
@@ -56,7 +55,7 @@ ccd-shown-fits s f a b h =
 
 -- what was written is read
 module _ (m : CcdMeaning) (fits : CcdFits m) where
-  judged-back : ccd_judged m.window m.delay m.expo (sine_word m.sine) m.cosine (vis_flag_word m.flags) ≡ Block m
+  judged-back : ccd_judged m.window m.delay m.expo (sine_word m.sine) m.cosine (vis_flag_word m.flags) ≡ Ok m
   unfolding ccd_judged ccd_rest_judged ccd_said sine_right cosine_right vis_flags_right least greatest rows
   judged-back =
       let sine = sine_word m.sine in
@@ -76,17 +75,17 @@ module _ (m : CcdMeaning) (fits : CcdFits m) where
       )
 
   module _ (readings : List ℕ) (sized : length readings ≡ 16) where
-    answer_back : ccd_answer_of (readings ++ ccd_status m) ≡ Block m
+    answer_back : ccd_answer_of (readings ++ ccd_status m) ≡ Ok m
     unfolding ccd_answer_of ccd_status
     answer_back =
-        status-judged (Refused Length) (λ w. ccd_judged (record { x1 = w 0; y1 = w 1; x2 = w 2; y2 = w 3 }) (w 4) (w 5) (w 6) (w 7) (w 8)) 16 readings (ccd_status m) sized ∙ judged-back
+        status-judged (Err Length) (λ w. ccd_judged (record { x1 = w 0; y1 = w 1; x2 = w 2; y2 = w 3 }) (w 4) (w 5) (w 6) (w 7) (w 8)) 16 readings (ccd_status m) sized ∙ judged-back
 
-    pub ccd-status-read : ccd_read_of (readings ++ ccd_status m) ≡ ccd_read readings (Block m)
-    unfolding ccd_read_of ccd_readings_of
+    pub ccd-status-read : ccd_read_of (readings ++ ccd_status m) ≡ Ok (ccd_block readings m)
+    unfolding ccd_read_of
     ccd-status-read = rw (answer_back, take_at readings (ccd_status m) 16 sized)
 
 pub ccd-written-read : (s : Head) (f : Flags) (a : Bool) (readings : List ℕ) (b : CcdBits) → in_range s ≡ true → length readings ≡ 16
-    → ccd_read_of (ccd_block_of s f a readings b) ≡ ccd_read readings (Block (ccd_shown s f a b))
+    → ccd_read_of (ccd_block_of s f a readings b) ≡ Ok (ccd_block readings (ccd_shown s f a b))
 unfolding ccd_block_of
 ccd-written-read s f a readings b h sized = ccd-status-read (ccd_shown s f a b) (ccd-shown-fits s f a b h) readings sized
 
@@ -107,25 +106,21 @@ record CcdRight (ws : List ℕ) (m : CcdMeaning) : Type 0 where
   flags : vis_flags_right (get_or ws 24 0) ≡ true
   said : ccd_said (window_of ws) (get_or ws 20 0) (get_or ws 21 0) (get_or ws 22 0) (get_or ws 23 0) (get_or ws 24 0) ≡ m
 
-no_block : (r : Refusal) (m : CcdMeaning) → Refused r ≡ Block m → ⊥
-no_block r m e = let z : ◌≡◌ {A = ℕ} 0 1 = cc in omega arith
-
-same_block : (n m : CcdMeaning) → Block n ≡ Block m → n ≡ m
-same_block n m e = cc
-
-right : (ws : List ℕ) (m : CcdMeaning) → ccd_answer_of ws ≡ Block m → CcdRight ws m
+right : (ws : List ℕ) (m : CcdMeaning) → ccd_answer_of ws ≡ Ok m → CcdRight ws m
 unfolding ccd_answer_of ccd_judged ccd_rest_judged window_of
-right ws m e = search (held no_block, later no_block, same_block, eqb-true) depth 20
+right ws m e = search (held, later, said_same, eqb-true) depth 20
 
 -- a block that was read is written back to the same words
-module _ (ws readings : List ℕ) (m : CcdMeaning) (e : ccd_read_of ws ≡ ccd_read readings (Block m)) where
-  answered : ccd_answer_of ws ≡ Block m
+module _ (ws readings : List ℕ) (m : CcdMeaning) (e : ccd_read_of ws ≡ Ok (ccd_block readings m)) where
+  made : (n : CcdMeaning) × (ccd_answer_of ws ≡ Ok n) × (ccd_block (take 16 ws) n ≡ ccd_block readings m)
   unfolding ccd_read_of
-  answered = ap (λ (r : CcdRead). r.answer) e
+  made = made_of (ccd_block (take 16 ws)) (ccd_answer_of ws) (ccd_block readings m) e
+
+  answered : ccd_answer_of ws ≡ Ok m
+  answered = made.1 ∙ ap (λ (b : CcdBlock). Ok b.meaning) made.2
 
   taken : take 16 ws ≡ readings
-  unfolding ccd_read_of ccd_readings_of
-  taken = rw answered at (ap (λ (r : CcdRead). r.readings) e)
+  taken = ap (λ (b : CcdBlock). b.readings) made.2
 
   pub ccd-read-fits : CcdFits m
   unfolding ccd_said window_of cosine_right least greatest rows

@@ -9,6 +9,7 @@ use borrow.Author.Tests.{eq-eqb, eqb-true}
 use lib.Dec.{eqb}
 use lib.ListN.{length, get_or, take}
 use lib.Seq.{take_at}
+use Rattle.std.specs.Prelude.{Ok, Err}
 use Rattle.words.specs.Kinds as kind
 use Rattle.words.specs.Kinds.{rows, least, greatest, allowed}
 use Rattle.words.proofs.Tests.{and_left, and_right}
@@ -18,14 +19,12 @@ use Rattle.head.specs.declared.state.Flags.{Flags}
 use Rattle.head.proofs.Bounds.{bounds, allowed-most}
 use Rattle.status.specs.Status.{lamp_shutter_word, lamp_shutter_in, lamp_shutter_right, ir_flag_word, ir_flags_in, ir_flags_right}
 use Rattle.status.proofs.Fields.{lamp-shutter-back, lamp-shutter-fits, ir-flags-back}
-use Rattle.blocks.specs.Ir.{first_line, last_line, mode_of, lines_right, ir_shown, ir_status, ir_block_of, ir_said, ir_judged, ir_answer_of, ir_readings_of, ir_read, ir_read_of}
-use Rattle.blocks.specs.declared.refusal.Refusal.{Refusal}
+use Rattle.blocks.specs.Ir.{first_line, last_line, mode_of, lines_right, ir_shown, ir_status, ir_block_of, ir_said, ir_judged, ir_answer_of, ir_block, ir_read_of}
 use Rattle.blocks.specs.declared.refusal.Refusal.TheVariants.{Length}
 use Rattle.blocks.specs.declared.ir.IrBits.{IrBits}
 use Rattle.blocks.specs.declared.ir.IrMeaning.{IrMeaning}
-use Rattle.blocks.specs.declared.ir.IrRead.{IrRead}
-use Rattle.blocks.specs.declared.ir.IrAnswer.TheVariants.{Block, Refused}
-use Rattle.blocks.proofs.Parts.{status-judged, words, put-together, held, later, within-allowed}
+use Rattle.blocks.specs.declared.ir.IrBlock.{IrBlock}
+use Rattle.blocks.proofs.Parts.{status-judged, words, put-together, held, later, said_same, made_of, within-allowed}
 
 -- what an IR block can say
 pub record IrFits (m : IrMeaning) : Type 0 where
@@ -79,7 +78,7 @@ lines-back y1 y2 right = go (eqb y1 0) refl
 module _ (m : IrMeaning) (fits : IrFits m) where
   judged-back :
       ir_judged (first_line m.mode) (last_line m.mode) m.delay m.expo (lamp_shutter_word m.lampshutter) (ir_flag_word m.flags)
-      ≡ Block m
+      ≡ Ok m
   unfolding ir_judged ir_said lamp_shutter_right ir_flags_right least greatest rows
   judged-back =
       let lampshutter = lamp_shutter_word m.lampshutter in
@@ -96,17 +95,17 @@ module _ (m : IrMeaning) (fits : IrFits m) where
       )
 
   module _ (readings : List ℕ) (sized : length readings ≡ 14) where
-    answer_back : ir_answer_of (readings ++ ir_status m) ≡ Block m
+    answer_back : ir_answer_of (readings ++ ir_status m) ≡ Ok m
     unfolding ir_answer_of ir_status
     answer_back =
-        status-judged (Refused Length) (λ w. ir_judged (w 0) (w 1) (w 2) (w 3) (w 4) (w 5)) 14 readings (ir_status m) sized ∙ judged-back
+        status-judged (Err Length) (λ w. ir_judged (w 0) (w 1) (w 2) (w 3) (w 4) (w 5)) 14 readings (ir_status m) sized ∙ judged-back
 
-    pub ir-status-read : ir_read_of (readings ++ ir_status m) ≡ ir_read readings (Block m)
-    unfolding ir_read_of ir_readings_of
+    pub ir-status-read : ir_read_of (readings ++ ir_status m) ≡ Ok (ir_block readings m)
+    unfolding ir_read_of
     ir-status-read = rw (answer_back, take_at readings (ir_status m) 14 sized)
 
 pub ir-written-read : (s : Head) (f : Flags) (a : Bool) (readings : List ℕ) (b : IrBits) → in_range s ≡ true → length readings ≡ 14
-    → ir_read_of (ir_block_of s f a readings b) ≡ ir_read readings (Block (ir_shown s f a b))
+    → ir_read_of (ir_block_of s f a readings b) ≡ Ok (ir_block readings (ir_shown s f a b))
 unfolding ir_block_of
 ir-written-read s f a readings b h sized = ir-status-read (ir_shown s f a b) (ir-shown-fits s f a b h) readings sized
 
@@ -120,25 +119,21 @@ record IrRight (ws : List ℕ) (m : IrMeaning) : Type 0 where
   flags : ir_flags_right (get_or ws 19 0) ≡ true
   said : ir_said (get_or ws 14 0) (get_or ws 16 0) (get_or ws 17 0) (get_or ws 18 0) (get_or ws 19 0) ≡ m
 
-no_block : (r : Refusal) (m : IrMeaning) → Refused r ≡ Block m → ⊥
-no_block r m e = let z : ◌≡◌ {A = ℕ} 0 1 = cc in omega arith
-
-same_block : (n m : IrMeaning) → Block n ≡ Block m → n ≡ m
-same_block n m e = cc
-
-right : (ws : List ℕ) (m : IrMeaning) → ir_answer_of ws ≡ Block m → IrRight ws m
+right : (ws : List ℕ) (m : IrMeaning) → ir_answer_of ws ≡ Ok m → IrRight ws m
 unfolding ir_answer_of ir_judged
-right ws m e = search (held no_block, later no_block, same_block, eqb-true) depth 20
+right ws m e = search (held, later, said_same, eqb-true) depth 20
 
 -- a block that was read is written back to the same words
-module _ (ws readings : List ℕ) (m : IrMeaning) (e : ir_read_of ws ≡ ir_read readings (Block m)) where
-  answered : ir_answer_of ws ≡ Block m
+module _ (ws readings : List ℕ) (m : IrMeaning) (e : ir_read_of ws ≡ Ok (ir_block readings m)) where
+  made : (n : IrMeaning) × (ir_answer_of ws ≡ Ok n) × (ir_block (take 14 ws) n ≡ ir_block readings m)
   unfolding ir_read_of
-  answered = ap (λ (r : IrRead). r.answer) e
+  made = made_of (ir_block (take 14 ws)) (ir_answer_of ws) (ir_block readings m) e
+
+  answered : ir_answer_of ws ≡ Ok m
+  answered = made.1 ∙ ap (λ (b : IrBlock). Ok b.meaning) made.2
 
   taken : take 14 ws ≡ readings
-  unfolding ir_read_of ir_readings_of
-  taken = rw answered at (ap (λ (r : IrRead). r.readings) e)
+  taken = ap (λ (b : IrBlock). b.readings) made.2
 
   pub ir-read-fits : IrFits m
   unfolding ir_said greatest rows

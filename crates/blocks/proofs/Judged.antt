@@ -2,10 +2,13 @@
 -- Assumes nothing.
 use mathlib.Core.Path.{◌≡◌}
 use mathlib.Core.Bool.{Bool, true, false, cond, not}
-use mathlib.Core.List.{List}
 use Prim.Native.Nat.{ℕ}
 use borrow.Author.Tests.{eq-eqb, ne_eqb}
 use lib.Dec.{eqb}
+use Rattle.std.specs.Prelude.{Result, Err}
+use Rattle.std.specs.Result.{result_map_both}
+use Rattle.blocks.specs.declared.refusal.Refusal.{Refusal}
+use Rattle.blocks.specs.declared.refusal.Refusal.TheVariants.{Length}
 
 pub stops : {A : Type 0} (t b : Bool) (r a : A) → b ≡ t → not b ≡ true → r ≡ cond (not t) r a
 stops t b r a e f = simp (← e, f)
@@ -20,7 +23,8 @@ unequal m n r a e = simp (ne_eqb m n e)
 pub equal : {A : Type 0} (m n : ℕ) (x r a : A) → m ≡ n → x ≡ a → x ≡ cond (not (eqb m n)) r a
 equal m n x r a e g = simp (eq-eqb m n e) g
 
--- what is read: the answer, and the readings that go with it
-pub read_as : {A R : Type 0} (made : List ℕ → A → R) (readings : A → List ℕ → List ℕ) (ws rs : List ℕ) (a b x : A) → a ≡ b
-    → a ≡ x → rs ≡ readings x ws → made rs a ≡ made (readings b ws) b
-read_as made readings ws rs a b x is told e = rw (e, ← told, is)
+-- what is read, where the length is right: what the status words say, and the readings with it
+pub reading : {M B : Type 0} (block : M → B) (m n : ℕ) (j a : Result M Refusal) (r : Result B Refusal) → m ≡ n → j ≡ a
+    → r ≡ result_map_both block (λ (e : Refusal). e) j
+    → r ≡ result_map_both block (λ (e : Refusal). e) (cond (not (eqb m n)) (Err Length) a)
+reading block m n j a r sized is told = rw (eq-eqb m n sized, ← is) told

@@ -9,6 +9,8 @@ use borrow.Author.Tests.{eq-eqb, le-leb}
 use lib.Dec.{eqb}
 use lib.ListN.{length, get_or, take, drop, length-append, take-append-drop, drop_of_length-le}
 use lib.Seq.{get_or-append-add, drop-cons}
+use Rattle.std.specs.Prelude.{Result, Ok, Err}
+use Rattle.std.specs.Result.{result_map_both}
 use Rattle.words.specs.Kinds as kind
 use Rattle.words.specs.Kinds.{least, greatest, allowed}
 use Rattle.blocks.specs.declared.refusal.Refusal.{Refusal}
@@ -39,14 +41,23 @@ pub put-together : (n k : ℕ) (ws : List ℕ) → length ws ≡ n + k → take 
 put-together n k ws e = rw (← dropped k n ws e) (take-append-drop n ws)
 
 -- an answer that says something passed each test
-module _ {M A : Type 0} {says : M → A} {refused : Refusal → A} (differ : (r : Refusal) (m : M) → refused r ≡ says m → ⊥) where
-  pub held : (t : Bool) (r : Refusal) (a : A) (m : M) → cond (not t) (refused r) a ≡ says m → t ≡ true
+module _ {M : Type 0} where
+  pub held : (t : Bool) (r : Refusal) (a : Result M Refusal) (m : M) → cond (not t) (Err r) a ≡ Ok m → t ≡ true
   held true r a m e = refl
-  held false r a m e = absurd (differ r m e)
+  held false r a m e = absurd cc
 
-  pub later : (t : Bool) (r : Refusal) (a : A) (m : M) → cond (not t) (refused r) a ≡ says m → a ≡ says m
+  pub later : (t : Bool) (r : Refusal) (a : Result M Refusal) (m : M) → cond (not t) (Err r) a ≡ Ok m → a ≡ Ok m
   later true r a m e = e
-  later false r a m e = absurd (differ r m e)
+  later false r a m e = absurd cc
+
+  pub said_same : (n m : M) → ◌≡◌ {A = Result M Refusal} (Ok n) (Ok m) → n ≡ m
+  said_same n m e = cc
+
+-- a block that was read is made of what its status words say
+pub made_of : {M B : Type 0} (block : M → B) (a : Result M Refusal) (b : B) → result_map_both block (λ (r : Refusal). r) a ≡ Ok b
+    → (m : M) × (a ≡ Ok m) × (block m ≡ b)
+made_of block (Ok m) b e = (m, refl, cc)
+made_of block (Err r) b e = absurd cc
 
 -- a value from the least to the greatest of a kind is allowed, unless the kind is COVER
 pub within-allowed : (k v : ℕ) → eqb k kind.cover ≡ false → least k ≤ v → v ≤ greatest k → allowed k v ≡ true

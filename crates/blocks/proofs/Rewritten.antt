@@ -6,18 +6,17 @@ use mathlib.Core.List.{List}
 use Prim.Native.Nat.{ℕ, ◌+◌, ◌*◌, ◌/◌, ◌%◌, ◌<◌, ◌≤◌}
 use native.Mathlib.Omega.{arith}
 use lib.Dec.{lit≤}
+use Rattle.std.specs.Prelude.{Ok}
 use Rattle.head.specs.Range.{in_range}
 use Rattle.head.proofs.Bounds.{bounds, in-range, power-on-range, RegisterBounds}
 use Rattle.head.specs.State.{power_on}
 use Rattle.status.specs.Status.{bit, is_set, sine_word, sine_fields, composed}
 use Rattle.status.proofs.Fields.{bit-set, bit-fits, sine-back}
-use Rattle.blocks.specs.Ir.{ir_shown, ir_block_of, ir_read, ir_read_of}
-use Rattle.blocks.specs.Ccd.{ccd_shown, ccd_block_of, ccd_read, ccd_read_of}
+use Rattle.blocks.specs.Ir.{ir_shown, ir_block_of, ir_block, ir_read_of}
+use Rattle.blocks.specs.Ccd.{ccd_shown, ccd_block_of, ccd_block, ccd_read_of}
 use Rattle.blocks.specs.Said.{settings_said, head_said, flags_said, ir_bits_said, ccd_bits_said}
 use Rattle.blocks.specs.declared.ir.IrMeaning.{IrMeaning}
-use Rattle.blocks.specs.declared.ir.IrAnswer.TheVariants as ir
 use Rattle.blocks.specs.declared.ccd.CcdMeaning.{CcdMeaning}
-use Rattle.blocks.specs.declared.ccd.CcdAnswer.TheVariants as ccd
 use Rattle.blocks.proofs.IrRound.{IrFits, ir-read-fits, ir-read-status}
 use Rattle.blocks.proofs.CcdRound.{CcdFits, ccd-read-fits, ccd-read-status}
 
@@ -96,7 +95,7 @@ module _ (m : IrMeaning) (n : CcdMeaning) where
         })
 
 -- a block that was read is written again, beside what the other block could say
-module _ (ws readings : List ℕ) (m : IrMeaning) (n : CcdMeaning) (e : ir_read_of ws ≡ ir_read readings (ir.Block m)) (c : CcdFits n) where
+module _ (ws readings : List ℕ) (m : IrMeaning) (n : CcdMeaning) (e : ir_read_of ws ≡ Ok (ir_block readings m)) (c : CcdFits n) where
   pub ir-read-in-range : in_range (head_said m n) ≡ true
   ir-read-in-range = said-in-range m n (ir-read-fits ws readings m e) c
 
@@ -104,7 +103,7 @@ module _ (ws readings : List ℕ) (m : IrMeaning) (n : CcdMeaning) (e : ir_read_
   unfolding ir_block_of
   ir-read-written = rw (ir-said m n) (ir-read-status ws readings m e)
 
-module _ (ws readings : List ℕ) (m : IrMeaning) (n : CcdMeaning) (e : ccd_read_of ws ≡ ccd_read readings (ccd.Block n)) (i : IrFits m) where
+module _ (ws readings : List ℕ) (m : IrMeaning) (n : CcdMeaning) (e : ccd_read_of ws ≡ Ok (ccd_block readings n)) (i : IrFits m) where
   pub ccd-read-in-range : in_range (head_said m n) ≡ true
   ccd-read-in-range = said-in-range m n i (ccd-read-fits ws readings n e)
 

@@ -1,6 +1,7 @@
 -- Document 01, "Blocks": the CCD block.
 -- Assumes nothing.
-use Rattle.std.specs.Prelude.{ℕ, Bool, cond, not, List, [], ◌∷◌, ◌++◌, eqb, leb, length, get_or, take, replicate}
+use Rattle.std.specs.Prelude.{ℕ, Bool, cond, not, List, [], ◌∷◌, ◌++◌, eqb, leb, length, get_or, take, Result, Ok, Err}
+use Rattle.std.specs.Result.{result_map_both}
 use Rattle.words.specs.Fields.{on, joined}
 use Rattle.words.specs.Kinds as kind
 use Rattle.words.specs.Kinds.{allowed, greatest}
@@ -12,9 +13,7 @@ use Rattle.blocks.specs.declared.refusal.Refusal.TheVariants.{Length, FixedBit, 
 use Rattle.blocks.specs.declared.ccd.CcdBits.{CcdBits}
 use Rattle.blocks.specs.declared.ccd.Window.{Window}
 use Rattle.blocks.specs.declared.ccd.CcdMeaning.{CcdMeaning}
-use Rattle.blocks.specs.declared.ccd.CcdAnswer.{CcdAnswer}
-use Rattle.blocks.specs.declared.ccd.CcdAnswer.TheVariants.{Block, Refused}
-use Rattle.blocks.specs.declared.ccd.CcdRead.{CcdRead}
+use Rattle.blocks.specs.declared.ccd.CcdBlock.{CcdBlock}
 
 abbrev pub ccd_words : ℕ
 ccd_words = 25
@@ -93,19 +92,19 @@ rest_decided refused right delay expo sine cosine flags =
     (cond (not (cosine_right cosine)) (refused (OutOfRange 23))
     (cond (not (vis_flags_right flags)) (refused (FixedBit 24)) right))))
 
-unfoldable pub ccd_rest_judged : Window → ℕ → ℕ → ℕ → ℕ → ℕ → CcdAnswer
+unfoldable pub ccd_rest_judged : Window → ℕ → ℕ → ℕ → ℕ → ℕ → Result CcdMeaning Refusal
 ccd_rest_judged window delay expo sine cosine flags =
-    rest_decided Refused (Block (ccd_said window delay expo sine cosine flags)) delay expo sine cosine flags
+    rest_decided Err (Ok (ccd_said window delay expo sine cosine flags)) delay expo sine cosine flags
 
-unfoldable pub ccd_judged : Window → ℕ → ℕ → ℕ → ℕ → ℕ → CcdAnswer
+unfoldable pub ccd_judged : Window → ℕ → ℕ → ℕ → ℕ → ℕ → Result CcdMeaning Refusal
 ccd_judged window delay expo sine cosine flags =
-    window_decided Refused (ccd_rest_judged window delay expo sine cosine flags) window
+    window_decided Err (ccd_rest_judged window delay expo sine cosine flags) window
 
 -- 11 where there are not 25 words, before all else.
-unfoldable pub ccd_answer_of : List ℕ → CcdAnswer
+unfoldable pub ccd_answer_of : List ℕ → Result CcdMeaning Refusal
 ccd_answer_of ws =
     let w : ℕ → ℕ = λ k. get_or ws k 0 in
-    cond (not (eqb (length ws) ccd_words)) (Refused Length)
+    cond (not (eqb (length ws) ccd_words)) (Err Length)
     (ccd_judged (record { x1 = w 16; y1 = w 17; x2 = w 18; y2 = w 19 }) (w 20) (w 21) (w 22) (w 23) (w 24))
 
 -- By number and place: 11 at 0 where there are not 25 words, else 12 or 13 at the first faulty word, 0 at 0 where the block is read.
@@ -115,13 +114,10 @@ ccd_told told ws =
     cond (not (eqb (length ws) ccd_words)) (told Length)
     (window_decided told (rest_decided told 0 (w 20) (w 21) (w 22) (w 23) (w 24)) (record { x1 = w 16; y1 = w 17; x2 = w 18; y2 = w 19 }))
 
--- The readings of a block that is read; a refused one gives none.
-unfoldable pub ccd_readings_of : CcdAnswer → List ℕ → List ℕ
-ccd_readings_of (Block m) ws = take ccd_readings ws
-ccd_readings_of (Refused r) ws = replicate ccd_readings 0
+-- A block that is read: its readings and what it says.
+abbrev pub ccd_block : List ℕ → CcdMeaning → CcdBlock
+ccd_block readings m = record { readings = readings; meaning = m }
 
-abbrev pub ccd_read : List ℕ → CcdAnswer → CcdRead
-ccd_read readings answer = record { readings = readings; answer = answer }
-
-unfoldable pub ccd_read_of : List ℕ → CcdRead
-ccd_read_of ws = ccd_read (ccd_readings_of (ccd_answer_of ws) ws) (ccd_answer_of ws)
+-- The readings go with what the status words say; a refused block gives none.
+unfoldable pub ccd_read_of : List ℕ → Result CcdBlock Refusal
+ccd_read_of ws = result_map_both (ccd_block (take ccd_readings ws)) (λ r. r) (ccd_answer_of ws)

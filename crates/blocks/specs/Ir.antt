@@ -1,6 +1,7 @@
 -- Document 01, "Blocks": the IR block.
 -- Assumes nothing.
-use Rattle.std.specs.Prelude.{ℕ, Bool, cond, not, ◌&&◌, ◌||◌, List, [], ◌∷◌, ◌++◌, eqb, length, get_or, take, replicate}
+use Rattle.std.specs.Prelude.{ℕ, Bool, cond, not, ◌&&◌, ◌||◌, List, [], ◌∷◌, ◌++◌, eqb, length, get_or, take, Result, Ok, Err}
+use Rattle.std.specs.Result.{result_map_both}
 use Rattle.words.specs.Fields.{on, current}
 use Rattle.words.specs.Kinds as kind
 use Rattle.words.specs.Kinds.{allowed}
@@ -11,9 +12,7 @@ use Rattle.blocks.specs.declared.refusal.Refusal.{Refusal}
 use Rattle.blocks.specs.declared.refusal.Refusal.TheVariants.{Length, FixedBit, OutOfRange}
 use Rattle.blocks.specs.declared.ir.IrBits.{IrBits}
 use Rattle.blocks.specs.declared.ir.IrMeaning.{IrMeaning}
-use Rattle.blocks.specs.declared.ir.IrAnswer.{IrAnswer}
-use Rattle.blocks.specs.declared.ir.IrAnswer.TheVariants.{Block, Refused}
-use Rattle.blocks.specs.declared.ir.IrRead.{IrRead}
+use Rattle.blocks.specs.declared.ir.IrBlock.{IrBlock}
 
 abbrev pub ir_words : ℕ
 ir_words = 20
@@ -101,15 +100,15 @@ ir_decided refused right y1 y2 delay expo lampshutter flags =
     (cond (not (lamp_shutter_right lampshutter)) (refused (FixedBit 18))
     (cond (not (ir_flags_right flags)) (refused (FixedBit 19)) right))))
 
-unfoldable pub ir_judged : ℕ → ℕ → ℕ → ℕ → ℕ → ℕ → IrAnswer
+unfoldable pub ir_judged : ℕ → ℕ → ℕ → ℕ → ℕ → ℕ → Result IrMeaning Refusal
 ir_judged y1 y2 delay expo lampshutter flags =
-    ir_decided Refused (Block (ir_said y1 delay expo lampshutter flags)) y1 y2 delay expo lampshutter flags
+    ir_decided Err (Ok (ir_said y1 delay expo lampshutter flags)) y1 y2 delay expo lampshutter flags
 
 -- 11 where there are not 20 words, before all else.
-unfoldable pub ir_answer_of : List ℕ → IrAnswer
+unfoldable pub ir_answer_of : List ℕ → Result IrMeaning Refusal
 ir_answer_of ws =
     let w : ℕ → ℕ = λ k. get_or ws k 0 in
-    cond (not (eqb (length ws) ir_words)) (Refused Length) (ir_judged (w 14) (w 15) (w 16) (w 17) (w 18) (w 19))
+    cond (not (eqb (length ws) ir_words)) (Err Length) (ir_judged (w 14) (w 15) (w 16) (w 17) (w 18) (w 19))
 
 -- By number and place: 11 at 0 where there are not 20 words, else 12 or 13 at the first faulty word, 0 at 0 where the block is read.
 unfoldable pub ir_told : (Refusal → ℕ) → List ℕ → ℕ
@@ -117,13 +116,10 @@ ir_told told ws =
     let w : ℕ → ℕ = λ k. get_or ws k 0 in
     cond (not (eqb (length ws) ir_words)) (told Length) (ir_decided told 0 (w 14) (w 15) (w 16) (w 17) (w 18) (w 19))
 
--- The readings of a block that is read; a refused one gives none.
-unfoldable pub ir_readings_of : IrAnswer → List ℕ → List ℕ
-ir_readings_of (Block m) ws = take ir_readings ws
-ir_readings_of (Refused r) ws = replicate ir_readings 0
+-- A block that is read: its readings and what it says.
+abbrev pub ir_block : List ℕ → IrMeaning → IrBlock
+ir_block readings m = record { readings = readings; meaning = m }
 
-abbrev pub ir_read : List ℕ → IrAnswer → IrRead
-ir_read readings answer = record { readings = readings; answer = answer }
-
-unfoldable pub ir_read_of : List ℕ → IrRead
-ir_read_of ws = ir_read (ir_readings_of (ir_answer_of ws) ws) (ir_answer_of ws)
+-- The readings go with what the status words say; a refused block gives none.
+unfoldable pub ir_read_of : List ℕ → Result IrBlock Refusal
+ir_read_of ws = result_map_both (ir_block (take ir_readings ws)) (λ r. r) (ir_answer_of ws)

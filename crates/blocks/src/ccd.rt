@@ -1,14 +1,13 @@
 // The CCD block: 16 readings and nine status words.
-ghost use Rattle.std.specs.Prelude.{◌≤◌, ◌≡◌, length, take};
+ghost use Rattle.std.specs.Prelude.{◌≡◌};
 ghost use Rattle.blocks.specs.Numbers.{refusal_number, refusal_place, written_number, written_place, ccd_number, ccd_place};
 ghost use Rattle.blocks.specs.Written.{written_of, write_number, buffer_after};
-ghost use Rattle.blocks.specs.Ccd.{ccd_words, ccd_readings, cosine_right, ccd_shown, ccd_said, ccd_status, ccd_block_of, ccd_rest_judged, ccd_judged, ccd_read_of, ccd_told};
+ghost use Rattle.blocks.specs.Ccd.{ccd_words, cosine_right, ccd_shown, ccd_status, ccd_block_of, ccd_rest_judged, ccd_judged, ccd_read_of, ccd_told};
 
-use crate::copy::copy_in;
 use crate::refusal::Refusal;
-use crate::written::{Written, write_block};
+use crate::written::write_block;
 use head::state::{Flags, Head};
-use status::{Sine, VisFlags};
+use status::{Sine, StatusWord, VisFlags};
 use words::allows;
 use words::kinds::{CCD_DELAY, CCD_EXPO, WIN_X1, WIN_X2, WIN_Y1, WIN_Y2};
 
@@ -43,38 +42,11 @@ pub struct CcdMeaning {
     pub flags: VisFlags,
 }
 
+// A block that is read.
 #[derive(Clone, Copy)]
-pub enum CcdAnswer {
-    Block(CcdMeaning),
-    Refused(Refusal),
-}
-
-impl CcdAnswer {
-    // Document 01's number; 0 where the block is read.
-    pub fn number(self) -> u8
-        ensures { result ≡ ccd_number self }
-    {
-        match self {
-            CcdAnswer::Block(_) => 0,
-            CcdAnswer::Refused(refusal) => refusal.number(),
-        }
-    }
-
-    pub fn place(self) -> usize
-        ensures { result ≡ ccd_place self }
-    {
-        match self {
-            CcdAnswer::Block(_) => 0,
-            CcdAnswer::Refused(refusal) => refusal.place(),
-        }
-    }
-}
-
-// The readings are all 0 where the block is refused.
-#[derive(Clone, Copy)]
-pub struct CcdRead {
-    pub readings: [u16; 16],
-    pub answer: CcdAnswer,
+pub struct CcdBlock {
+    pub readings: [u16; CCD_READINGS],
+    pub meaning: CcdMeaning,
 }
 
 impl CcdMeaning {
@@ -131,11 +103,33 @@ fn cosine_right(cosine: u16) -> bool
     cosine <= MOST_COSINE
 }
 
-// What right status words say.
-fn said(window: Window, delay: u16, expo: u16, sine: u16, cosine: u16, flags: u16) -> CcdAnswer
-    ensures { result ≡ CcdAnswer.Block (ccd_said window delay expo sine cosine flags) }
+// Judges the status words after the window one by one; the first faulty word decides.
+fn judge_rest(
+    window: Window,
+    delay: u16,
+    expo: u16,
+    sine: u16,
+    cosine: u16,
+    flags: u16,
+) -> Result<CcdMeaning, Refusal>
+    ensures { result ≡ ccd_rest_judged window delay expo sine cosine flags }
 {
-    CcdAnswer::Block(CcdMeaning {
+    if !allows(CCD_DELAY, delay) {
+        return Err(Refusal::OutOfRange { place: 20 });
+    }
+    if !allows(CCD_EXPO, expo) {
+        return Err(Refusal::OutOfRange { place: 21 });
+    }
+    if !Sine::right(sine) {
+        return Err(Refusal::FixedBit { place: 22 });
+    }
+    if !cosine_right(cosine) {
+        return Err(Refusal::OutOfRange { place: 23 });
+    }
+    if !VisFlags::right(flags) {
+        return Err(Refusal::FixedBit { place: 24 });
+    }
+    Ok(CcdMeaning {
         window,
         delay,
         expo,
@@ -145,74 +139,39 @@ fn said(window: Window, delay: u16, expo: u16, sine: u16, cosine: u16, flags: u1
     })
 }
 
-// Judges the status words after the window one by one; the first faulty word decides.
-fn judge_rest(
+// The window first.
+fn judge(
     window: Window,
     delay: u16,
     expo: u16,
     sine: u16,
     cosine: u16,
     flags: u16,
-) -> CcdAnswer
-    ensures { result ≡ ccd_rest_judged window delay expo sine cosine flags }
-{
-    if !allows(CCD_DELAY, delay) {
-        return CcdAnswer::Refused(Refusal::OutOfRange { place: 20 });
-    }
-    if !allows(CCD_EXPO, expo) {
-        return CcdAnswer::Refused(Refusal::OutOfRange { place: 21 });
-    }
-    if !Sine::right(sine) {
-        return CcdAnswer::Refused(Refusal::FixedBit { place: 22 });
-    }
-    if !cosine_right(cosine) {
-        return CcdAnswer::Refused(Refusal::OutOfRange { place: 23 });
-    }
-    if !VisFlags::right(flags) {
-        return CcdAnswer::Refused(Refusal::FixedBit { place: 24 });
-    }
-    said(window, delay, expo, sine, cosine, flags)
-}
-
-// The window first.
-fn judge(window: Window, delay: u16, expo: u16, sine: u16, cosine: u16, flags: u16) -> CcdAnswer
+) -> Result<CcdMeaning, Refusal>
     ensures { result ≡ ccd_judged window delay expo sine cosine flags }
 {
     if !allows(WIN_X1, window.x1) {
-        return CcdAnswer::Refused(Refusal::OutOfRange { place: 16 });
+        return Err(Refusal::OutOfRange { place: 16 });
     }
     if !allows(WIN_Y1, window.y1) {
-        return CcdAnswer::Refused(Refusal::OutOfRange { place: 17 });
+        return Err(Refusal::OutOfRange { place: 17 });
     }
     if !allows(WIN_X2, window.x2) {
-        return CcdAnswer::Refused(Refusal::OutOfRange { place: 18 });
+        return Err(Refusal::OutOfRange { place: 18 });
     }
     if !allows(WIN_Y2, window.y2) {
-        return CcdAnswer::Refused(Refusal::OutOfRange { place: 19 });
+        return Err(Refusal::OutOfRange { place: 19 });
     }
     judge_rest(window, delay, expo, sine, cosine, flags)
 }
 
-fn readings_of(words: &[u16]) -> [u16; 16]
-    requires { ccd_readings ≤ length words.now }
-    ensures { result ≡ take ccd_readings words.now }
-{
-    let mut readings = [0u16; 16];
-    copy_in(words, &mut readings, 0, CCD_READINGS);
-    readings
-}
-
-pub fn read_ccd(words: &[u16]) -> CcdRead
+pub fn read_ccd(words: &[u16]) -> Result<CcdBlock, Refusal>
     ensures value { result ≡ ccd_read_of words.now }
-    ensures answer_value { ccd_number result.answer ≡ ccd_told refusal_number words.now }
-    ensures answer_value_2 { ccd_place result.answer ≡ ccd_told refusal_place words.now }
+    ensures number { ccd_number result ≡ ccd_told refusal_number words.now }
+    ensures place { ccd_place result ≡ ccd_told refusal_place words.now }
 {
     if words.len() != CCD_WORDS {
-        let none = [0u16; 16];
-        return CcdRead {
-            readings: none,
-            answer: CcdAnswer::Refused(Refusal::Length),
-        };
+        return Err(Refusal::Length);
     }
     let window = Window {
         x1: words[16],
@@ -220,18 +179,12 @@ pub fn read_ccd(words: &[u16]) -> CcdRead
         x2: words[18],
         y2: words[19],
     };
-    let answer = judge(
+    let meaning = judge(
         window, words[20], words[21], words[22], words[23], words[24],
-    );
-    let CcdAnswer::Block(_) = answer else {
-        let none = [0u16; 16];
-        return CcdRead {
-            readings: none,
-            answer,
-        };
-    };
-    let readings = readings_of(words);
-    CcdRead { readings, answer }
+    )?;
+    let mut readings = [0; CCD_READINGS];
+    readings.copy_from_slice(&words[..CCD_READINGS]);
+    Ok(CcdBlock { readings, meaning })
 }
 
 // Writes the block of a state, with the five flags to show, whether an acquisition ended, and the caller's readings and bits. A
@@ -240,13 +193,13 @@ pub fn write_ccd(
     head: Head,
     flags: Flags,
     acquired: bool,
-    readings: [u16; 16],
+    readings: [u16; CCD_READINGS],
     bits: CcdBits,
     buffer: &mut [u16],
-) -> Written
+) -> Result<(), Refusal>
     ensures value { result ≡ written_of ccd_words head buffer.old }
-    ensures result_value { written_number result ≡ write_number ccd_words head buffer.old }
-    ensures result_value_2 { written_place result ≡ 0 }
+    ensures number { written_number result ≡ write_number ccd_words head buffer.old }
+    ensures place { written_place result ≡ 0 }
     ensures buffer_after { buffer.new ≡ buffer_after result (ccd_block_of head flags acquired readings bits) buffer.old }
 {
     let status = CcdMeaning::shown(head, flags, acquired, bits).status();

@@ -1,14 +1,13 @@
 // The IR block: 14 readings and six status words.
-ghost use Rattle.std.specs.Prelude.{◌≤◌, ◌≡◌, cond, eqb, length, take};
+ghost use Rattle.std.specs.Prelude.{◌≡◌, cond, eqb};
 ghost use Rattle.blocks.specs.Numbers.{refusal_number, refusal_place, written_number, written_place, ir_number, ir_place};
 ghost use Rattle.blocks.specs.Written.{written_of, write_number, buffer_after};
-ghost use Rattle.blocks.specs.Ir.{ir_words, ir_readings, lines_right, ir_shown, ir_said, ir_status, ir_block_of, ir_judged, ir_read_of, ir_told};
+ghost use Rattle.blocks.specs.Ir.{ir_words, lines_right, ir_shown, ir_status, ir_block_of, ir_judged, ir_read_of, ir_told};
 
-use crate::copy::copy_in;
 use crate::refusal::Refusal;
-use crate::written::{Written, write_block};
+use crate::written::write_block;
 use head::state::{Flags, Head};
-use status::{IrFlags, LampShutter};
+use status::{IrFlags, LampShutter, StatusWord};
 use words::allows;
 use words::kinds::{IR_DELAY, IR_EXPO};
 
@@ -35,38 +34,11 @@ pub struct IrMeaning {
     pub flags: IrFlags,
 }
 
+// A block that is read.
 #[derive(Clone, Copy)]
-pub enum IrAnswer {
-    Block(IrMeaning),
-    Refused(Refusal),
-}
-
-impl IrAnswer {
-    // Document 01's number; 0 where the block is read.
-    pub fn number(self) -> u8
-        ensures { result ≡ ir_number self }
-    {
-        match self {
-            IrAnswer::Block(_) => 0,
-            IrAnswer::Refused(refusal) => refusal.number(),
-        }
-    }
-
-    pub fn place(self) -> usize
-        ensures { result ≡ ir_place self }
-    {
-        match self {
-            IrAnswer::Block(_) => 0,
-            IrAnswer::Refused(refusal) => refusal.place(),
-        }
-    }
-}
-
-// The readings are all 0 where the block is refused.
-#[derive(Clone, Copy)]
-pub struct IrRead {
-    pub readings: [u16; 14],
-    pub answer: IrAnswer,
+pub struct IrBlock {
+    pub readings: [u16; IR_READINGS],
+    pub meaning: IrMeaning,
 }
 
 // What belongs to 0, or to any other number.
@@ -132,11 +104,33 @@ fn lines_right(y1: u16, y2: u16) -> bool
     ((y1 == 0) & (y2 == 269)) | ((y1 == 90) & (y2 == 179))
 }
 
-// What right status words say.
-fn said(y1: u16, delay: u16, expo: u16, lampshutter: u16, flags: u16) -> IrAnswer
-    ensures { result ≡ IrAnswer.Block (ir_said y1 delay expo lampshutter flags) }
+// Judges the status words one by one; the first faulty word decides.
+fn judge(
+    y1: u16,
+    y2: u16,
+    delay: u16,
+    expo: u16,
+    lampshutter: u16,
+    flags: u16,
+) -> Result<IrMeaning, Refusal>
+    ensures { result ≡ ir_judged y1 y2 delay expo lampshutter flags }
 {
-    IrAnswer::Block(IrMeaning {
+    if !lines_right(y1, y2) {
+        return Err(Refusal::OutOfRange { place: 15 });
+    }
+    if !allows(IR_DELAY, delay) {
+        return Err(Refusal::OutOfRange { place: 16 });
+    }
+    if !allows(IR_EXPO, expo) {
+        return Err(Refusal::OutOfRange { place: 17 });
+    }
+    if !LampShutter::right(lampshutter) {
+        return Err(Refusal::FixedBit { place: 18 });
+    }
+    if !IrFlags::right(flags) {
+        return Err(Refusal::FixedBit { place: 19 });
+    }
+    Ok(IrMeaning {
         mode: choose(y1, 0, 1),
         delay,
         expo,
@@ -145,61 +139,20 @@ fn said(y1: u16, delay: u16, expo: u16, lampshutter: u16, flags: u16) -> IrAnswe
     })
 }
 
-// Judges the status words one by one; the first faulty word decides.
-fn judge(y1: u16, y2: u16, delay: u16, expo: u16, lampshutter: u16, flags: u16) -> IrAnswer
-    ensures { result ≡ ir_judged y1 y2 delay expo lampshutter flags }
-{
-    if !lines_right(y1, y2) {
-        return IrAnswer::Refused(Refusal::OutOfRange { place: 15 });
-    }
-    if !allows(IR_DELAY, delay) {
-        return IrAnswer::Refused(Refusal::OutOfRange { place: 16 });
-    }
-    if !allows(IR_EXPO, expo) {
-        return IrAnswer::Refused(Refusal::OutOfRange { place: 17 });
-    }
-    if !LampShutter::right(lampshutter) {
-        return IrAnswer::Refused(Refusal::FixedBit { place: 18 });
-    }
-    if !IrFlags::right(flags) {
-        return IrAnswer::Refused(Refusal::FixedBit { place: 19 });
-    }
-    said(y1, delay, expo, lampshutter, flags)
-}
-
-fn readings_of(words: &[u16]) -> [u16; 14]
-    requires { ir_readings ≤ length words.now }
-    ensures { result ≡ take ir_readings words.now }
-{
-    let mut readings = [0u16; 14];
-    copy_in(words, &mut readings, 0, IR_READINGS);
-    readings
-}
-
-pub fn read_ir(words: &[u16]) -> IrRead
+pub fn read_ir(words: &[u16]) -> Result<IrBlock, Refusal>
     ensures value { result ≡ ir_read_of words.now }
-    ensures answer_value { ir_number result.answer ≡ ir_told refusal_number words.now }
-    ensures answer_value_2 { ir_place result.answer ≡ ir_told refusal_place words.now }
+    ensures number { ir_number result ≡ ir_told refusal_number words.now }
+    ensures place { ir_place result ≡ ir_told refusal_place words.now }
 {
     if words.len() != IR_WORDS {
-        let none = [0u16; 14];
-        return IrRead {
-            readings: none,
-            answer: IrAnswer::Refused(Refusal::Length),
-        };
+        return Err(Refusal::Length);
     }
-    let answer = judge(
+    let meaning = judge(
         words[14], words[15], words[16], words[17], words[18], words[19],
-    );
-    let IrAnswer::Block(_) = answer else {
-        let none = [0u16; 14];
-        return IrRead {
-            readings: none,
-            answer,
-        };
-    };
-    let readings = readings_of(words);
-    IrRead { readings, answer }
+    )?;
+    let mut readings = [0; IR_READINGS];
+    readings.copy_from_slice(&words[..IR_READINGS]);
+    Ok(IrBlock { readings, meaning })
 }
 
 // Writes the block of a state, with the five flags to show, whether an acquisition ended, and the caller's readings and bits. A
@@ -208,13 +161,13 @@ pub fn write_ir(
     head: Head,
     flags: Flags,
     acquired: bool,
-    readings: [u16; 14],
+    readings: [u16; IR_READINGS],
     bits: IrBits,
     buffer: &mut [u16],
-) -> Written
+) -> Result<(), Refusal>
     ensures value { result ≡ written_of ir_words head buffer.old }
-    ensures result_value { written_number result ≡ write_number ir_words head buffer.old }
-    ensures result_value_2 { written_place result ≡ 0 }
+    ensures number { written_number result ≡ write_number ir_words head buffer.old }
+    ensures place { written_place result ≡ 0 }
     ensures buffer_after { buffer.new ≡ buffer_after result (ir_block_of head flags acquired readings bits) buffer.old }
 {
     let status = IrMeaning::shown(head, flags, acquired, bits).status();

@@ -2,7 +2,6 @@
 #![tactic(auto)]
 
 pub mod ccd;
-pub mod copy;
 pub mod ir;
 pub mod refusal;
 pub mod written;

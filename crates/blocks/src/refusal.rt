@@ -1,8 +1,8 @@
 // Why a block is not written or not read.
 ghost use Rattle.std.specs.Prelude.{◌≡◌};
-ghost use Rattle.blocks.specs.Numbers.{refusal_number, refusal_place};
+ghost use Rattle.blocks.specs.Numbers.{answer_number, answer_place, refusal_number, refusal_place};
 
-#[derive(Clone, Copy)]
+#[derive(Clone, Copy, Debug, PartialEq, Eq)]
 pub enum Refusal {
     // The buffer has not the block's length.
     Length,
@@ -32,10 +32,27 @@ impl Refusal {
         ensures { result ≡ refusal_place self }
     {
         match self {
-            Refusal::Length => 0,
-            Refusal::State => 0,
-            Refusal::FixedBit { place } => place,
-            Refusal::OutOfRange { place } => place,
+            Refusal::Length | Refusal::State => 0,
+            Refusal::FixedBit { place } | Refusal::OutOfRange { place } => place,
         }
+    }
+}
+
+// Document 01's number of a writer's or a reader's answer; 0 where the block is written or read.
+pub fn number_of<T>(answer: &Result<T, Refusal>) -> u8
+    ensures { result ≡ answer_number answer.now }
+{
+    match answer {
+        Ok(_) => 0,
+        Err(refusal) => refusal.number(),
+    }
+}
+
+pub fn place_of<T>(answer: &Result<T, Refusal>) -> usize
+    ensures { result ≡ answer_place answer.now }
+{
+    match answer {
+        Ok(_) => 0,
+        Err(refusal) => refusal.place(),
     }
 }

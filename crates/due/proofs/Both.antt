@@ -8,6 +8,7 @@ use native.Mathlib.Omega.{arith}
 use borrow.Author.Tests.{eq-eqb}
 use lib.Dec.{eqb}
 use lib.ListN.{length}
+use Rattle.std.specs.Prelude.{Result, Ok, Err}
 use Rattle.head.specs.Range.{in_range}
 use Rattle.head.specs.declared.state.Head.{Head}
 use Rattle.blocks.specs.Written.{written_if, written_of, buffer_after}
@@ -15,24 +16,22 @@ use Rattle.blocks.specs.Ir.{ir_words}
 use Rattle.blocks.specs.Ccd.{ccd_words}
 use Rattle.blocks.specs.declared.refusal.Refusal.{Refusal}
 use Rattle.blocks.specs.declared.refusal.Refusal.TheVariants.{Length}
-use Rattle.blocks.specs.declared.written.Written.{Written}
-use Rattle.blocks.specs.declared.written.Written.TheVariants.{Done, Refused}
 use Rattle.blocks.proofs.Judged.{equal}
 use Rattle.due.specs.Due.{both_written_of}
 
 -- a refusal leaves a buffer as it was
-pub untouched : (r : Written) (x : Refusal) (block buffer : List ℕ) → r ≡ Refused x → buffer ≡ buffer_after r block buffer
+pub untouched : (r : Result (Unit {0}) Refusal) (x : Refusal) (block buffer : List ℕ) → r ≡ Err x → buffer ≡ buffer_after r block buffer
 unfolding buffer_after
 untouched r x block buffer e = rw e
 
 -- both blocks: where the CCD buffer has its length, the IR block's answer is the answer
-module _ (s : Head) (ir ccd : List ℕ) (w : Written) (sized : length ccd ≡ ccd_words) (is : w ≡ written_of ir_words s ir) where
+module _ (s : Head) (ir ccd : List ℕ) (w : Result (Unit {0}) Refusal) (sized : length ccd ≡ ccd_words) (is : w ≡ written_of ir_words s ir) where
   pub first-decides : w ≡ both_written_of s ir ccd
   unfolding both_written_of
-  first-decides = equal (length ccd) ccd_words w (Refused Length) (written_of ir_words s ir) sized is
+  first-decides = equal (length ccd) ccd_words w (Err Length) (written_of ir_words s ir) sized is
 
   -- and where it is written, the CCD block is written too
-  module _ (done : w ≡ Done) (r : Written) (other : r ≡ written_of ccd_words s ccd) where
+  module _ (done : w ≡ Ok tt) (r : Result (Unit {0}) Refusal) (other : r ≡ written_of ccd_words s ccd) where
     as-well : r ≡ w
     unfolding written_of written_if
     as-well = go (eqb (length ir) ir_words) refl (in_range s) refl

@@ -6,6 +6,7 @@ use mathlib.Core.List.{List}
 use Prim.Native.Nat.{ℕ}
 use borrow.Author.Tests.{eq-eqb}
 use lib.ListN.{length}
+use Rattle.std.specs.Prelude.{Some, Ok}
 use Rattle.head.specs.Range.{in_range}
 use Rattle.head.specs.Busy.{busy_ticks}
 use Rattle.head.specs.Flags.{shown}
@@ -20,9 +21,7 @@ use Rattle.blocks.specs.Ir.{ir_shown, ir_block_of}
 use Rattle.blocks.specs.Ccd.{ccd_shown, ccd_block_of}
 use Rattle.blocks.specs.declared.ir.IrBits.{IrBits}
 use Rattle.blocks.specs.declared.ccd.CcdBits.{CcdBits}
-use Rattle.blocks.specs.declared.written.Written.TheVariants.{Done}
 use Rattle.due.specs.Due.{acquisition, both_written_of, due_written_of, ir_due_after, ccd_due_after}
-use Rattle.due.specs.declared.DueWritten.TheVariants.{Blocks}
 
 module _ (s : Head) (h : in_range s ≡ true) (last : busy_ticks s ≡ 1) where
   ends : (tick_of s).due ≡ due.Blocks (task_of s.work.task) (shown s.flags)
@@ -33,11 +32,11 @@ module _ (s : Head) (h : in_range s ≡ true) (last : busy_ticks s ≡ 1) where
   kept = ticks-settings 1 s h
 
   module _ (ir ccd : List ℕ) (ir-sized : length ir ≡ 20) (ccd-sized : length ccd ≡ 25) where
-    both : both_written_of (tick_of s).head ir ccd ≡ Done
+    both : both_written_of (tick_of s).head ir ccd ≡ Ok tt
     unfolding both_written_of written_of written_if
     both = rw (eq-eqb (length ccd) 25 ccd-sized, eq-eqb (length ir) 20 ir-sized, tick-keeps s h)
 
-    pub ended-written : due_written_of (tick_of s).head (tick_of s).due ir ccd ≡ Blocks Done
+    pub ended-written : due_written_of (tick_of s).head (tick_of s).due ir ccd ≡ Some (Ok tt)
     unfolding due_written_of
     ended-written = rw (ends, both)
 

@@ -1,6 +1,6 @@
 -- From a tick to the two blocks: they are due when a task ended, and show the flags that the tick answers.
 -- Assumes nothing.
-use Rattle.std.specs.Prelude.{ℕ, Bool, true, false, cond, not, List, eqb, length}
+use Rattle.std.specs.Prelude.{ℕ, Bool, true, false, cond, not, List, eqb, length, Option, None, Some, Result, Err}
 use Rattle.head.specs.declared.state.Head.{Head}
 use Rattle.head.specs.declared.state.Task.{Task}
 use Rattle.head.specs.declared.state.Task.TheVariants.{Idle, Acquisition, Housekeeping}
@@ -10,14 +10,11 @@ use Rattle.blocks.specs.Numbers.{refusal_number}
 use Rattle.blocks.specs.Written.{written_of, write_number, buffer_after}
 use Rattle.blocks.specs.Ir.{ir_words, ir_block_of}
 use Rattle.blocks.specs.Ccd.{ccd_words, ccd_block_of}
+use Rattle.blocks.specs.declared.refusal.Refusal.{Refusal}
 use Rattle.blocks.specs.declared.refusal.Refusal.TheVariants.{Length}
-use Rattle.blocks.specs.declared.written.Written.{Written}
-use Rattle.blocks.specs.declared.written.Written.TheVariants.{Refused}
 use Rattle.blocks.specs.declared.ir.IrBits.{IrBits}
 use Rattle.blocks.specs.declared.ccd.CcdBits.{CcdBits}
 use Rattle.due.specs.Numbers.{not_due_number}
-use Rattle.due.specs.declared.DueWritten.{DueWritten}
-use Rattle.due.specs.declared.DueWritten.TheVariants.{NotDue, Blocks}
 
 -- Whether an acquisition ended.
 unfoldable pub acquisition : Task → Bool
@@ -26,17 +23,17 @@ acquisition Acquisition = true
 acquisition Housekeeping = false
 
 -- Both blocks are written, or neither: 11 where either buffer has not its block's length, then 21.
-unfoldable pub both_written_of : Head → List ℕ → List ℕ → Written
-both_written_of s ir ccd = cond (not (eqb (length ccd) ccd_words)) (Refused Length) (written_of ir_words s ir)
+unfoldable pub both_written_of : Head → List ℕ → List ℕ → Result (Unit {0}) Refusal
+both_written_of s ir ccd = cond (not (eqb (length ccd) ccd_words)) (Err Length) (written_of ir_words s ir)
 
 -- By number: 11, then 21, else 0.
 unfoldable pub both_number : Head → List ℕ → List ℕ → ℕ
 both_number s ir ccd = cond (not (eqb (length ccd) ccd_words)) (refusal_number Length) (write_number ir_words s ir)
 
-unfoldable pub due_written_of : Head → Due → List ℕ → List ℕ → DueWritten
-due_written_of s due.Nothing ir ccd = NotDue
-due_written_of s (due.Blocks ended flags) ir ccd = Blocks (both_written_of s ir ccd)
-due_written_of s due.Refused ir ccd = NotDue
+unfoldable pub due_written_of : Head → Due → List ℕ → List ℕ → Option (Result (Unit {0}) Refusal)
+due_written_of s due.Nothing ir ccd = None
+due_written_of s (due.Blocks ended flags) ir ccd = Some (both_written_of s ir ccd)
+due_written_of s due.Refused ir ccd = None
 
 -- By number: a number of its own where no block is due.
 unfoldable pub due_number : Head → Due → List ℕ → List ℕ → ℕ

@@ -4,7 +4,7 @@
 use mathlib.Core.Path.{◌≡◌, refl, sym, ap, ◌∙◌}
 use mathlib.Core.Bool.{Bool, true, false, false≢true}
 use mathlib.Core.List.{List, [], ◌∷◌}
-use mathlib.Core.Option.{Option, none, some}
+use Rattle.std.specs.Prelude.{Option, None, Some}
 use Prim.Native.Nat.{ℕ}
 use borrow.Author.Tests.{eq-eqb}
 use lib.Dec.{eqb}
@@ -89,11 +89,11 @@ quiet = tick nothing false
 
 -- by what the observations are told apart: the flag word at the nth tick, or X1 at the end
 abbrev word_in : Option ℕ → ℕ
-word_in none = 0
-word_in (some w) = w
+word_in None = 0
+word_in (Some w) = w
 
 abbrev word_at : ℕ → Observation → ℕ
-word_at n o = word_in (get_or o.ticks n (record { before = []; answer = none; meanwhile = []; flag_word = none })).flag_word
+word_at n o = word_in (get_or o.ticks n (record { before = []; answer = None; meanwhile = []; flag_word = None })).flag_word
 
 abbrev x1_at : Observation → ℕ
 x1_at o = get_or o.end 0 0

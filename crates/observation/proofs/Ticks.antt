@@ -2,7 +2,7 @@
 -- Assumes nothing.
 use mathlib.Core.Path.{◌≡◌, refl, ap, ◌∙◌}
 use mathlib.Core.Bool.{Bool, true, false, cond, not, ◌&&◌}
-use mathlib.Core.Option.{none, some}
+use Rattle.std.specs.Prelude.{None, Some}
 use Prim.Native.Nat.{ℕ, ◌-◌}
 use native.Mathlib.Omega.{arith}
 use borrow.Author.Tests.{eqb-true, eqb-false, lt-ltb}
@@ -87,11 +87,11 @@ module _ (s : Head) (h : in_range s ≡ true) where
           lampon = is_set (on s.settings.ccdlamp);
         })
 
-    ticked-word : (x : Bool) → eqb s.work.busy 1 ≡ x → flag_word_due (tick_of s).head (tick_of s).due bits ≡ cond x (some shown_word) none
+    ticked-word : (x : Bool) → eqb s.work.busy 1 ≡ x → flag_word_due (tick_of s).head (tick_of s).due bits ≡ cond x (Some shown_word) None
     unfolding tick_of passed flag_word_due ccd_shown shown_word
     ticked-word true e = rw (h, e)
     ticked-word false e = rw (h, e)
 
     pub flag-word-in : flag_word_due (tick_of s).head (tick_of s).due bits ≡ flag_word_in (view s) (is_busy (tick_of s).head) bits
     unfolding flag_word_in shown_word
-    flag-word-in = ticked-word (eqb s.work.busy 1) refl ∙ ap (λ (x : Bool). cond x (some shown_word) none) ends-in
+    flag-word-in = ticked-word (eqb s.work.busy 1) refl ∙ ap (λ (x : Bool). cond x (Some shown_word) None) ends-in

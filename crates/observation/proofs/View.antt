@@ -3,26 +3,28 @@
 use Prim.Native.Nat.{ℕ}
 use mathlib.Core.Bool.{Bool, cond, not, ◌&&◌, ◌||◌}
 use mathlib.Core.List.{List, [], ◌∷◌}
-use mathlib.Core.Option.{Option, none, some}
+use Rattle.std.specs.Prelude.{Option, None, Some, Result, Ok, Err}
 use lib.Dec.{eqb}
 use Rattle.words.specs.Fields.{on}
 use Rattle.words.specs.Kinds as kind
 use Rattle.words.specs.Codec.{decode_of}
-use Rattle.words.specs.declared.Decoded.{Decoded}
-use Rattle.words.specs.declared.Decoded.TheVariants.{Word, Unknown, OutOfRange}
+use Rattle.words.specs.declared.Word.{Word}
+use Rattle.words.specs.declared.DecodeError.{DecodeError}
+use Rattle.words.specs.declared.DecodeError.TheVariants.{Unknown, OutOfRange}
 use Rattle.head.specs.State as state
 use Rattle.head.specs.Flags.{for_vis, for_both, mirror_word}
 use Rattle.head.specs.Word.{stop_word}
 use Rattle.head.specs.Tick.{task_of}
 use Rattle.head.specs.declared.state.Head.{Head}
-use Rattle.head.specs.declared.word.Act.TheVariants.{None}
+use Rattle.head.specs.declared.word.Act.TheVariants as act
+use Rattle.head.specs.declared.word.Outcome.{Outcome}
 use Rattle.head.specs.declared.word.Outcome.TheVariants.{Taken}
 use Rattle.status.specs.Status.{is_set, vis_flag_word}
 use Rattle.blocks.specs.declared.ccd.CcdBits.{CcdBits}
 use Rattle.due.specs.Due.{acquisition}
 use Rattle.operators.specs.Passing.{is_operator, in_group}
-use Rattle.operators.specs.declared.Passing.{Passing}
-use Rattle.operators.specs.declared.Passing.TheVariants.{NotPassed, Passed}
+use Rattle.operators.specs.declared.PassError.{PassError}
+use Rattle.operators.specs.declared.PassError.TheVariants.{NotPassed}
 use Rattle.observation.specs.Run.{Given, nothing, by_ccd, by_infrared, by_controller}
 
 -- the CCD registers, the VIS flags and the task
@@ -100,10 +102,10 @@ view_taken v k b =
 unfoldable pub word_flag_out : ℕ → ℕ → ℕ
 word_flag_out k old = cond (for_vis k) 1 (cond (mirror_word k || eqb k kind.switch) old (cond (for_both k) 1 old))
 
-unfoldable pub view_decoded : View → Decoded → View
-view_decoded v Unknown = marking v v.vistime 1 v.task
-view_decoded v (OutOfRange k) = marking v v.vistime (word_flag_out k v.visword) v.task
-view_decoded v (Word k b) = view_taken v k b
+unfoldable pub view_decoded : View → Result Word DecodeError → View
+view_decoded v (Err Unknown) = marking v v.vistime 1 v.task
+view_decoded v (Err (OutOfRange k)) = marking v v.vistime (word_flag_out k v.visword) v.task
+view_decoded v (Ok w) = view_taken v w.kind w.bits
 
 -- after any word that the head gets
 unfoldable pub view_answered : View → ℕ → View
@@ -117,8 +119,8 @@ unfoldable pub view_passed : View → ℕ → ℕ → View
 view_passed v g w = cond (passes_in v g w) (view_answered v w) v
 
 -- a word of the CCD operator that is passed on is taken
-unfoldable pub passing_in : View → ℕ → Passing
-passing_in v w = cond (passes_in v kind.ccd w) (Passed (Taken None)) NotPassed
+unfoldable pub passing_in : View → ℕ → Result Outcome PassError
+passing_in v w = cond (passes_in v kind.ccd w) (Ok (Taken act.None)) (Err NotPassed)
 
 -- after what is given at a tick, infrared words left out
 unfoldable pub view_between : View → Given → View
@@ -127,11 +129,11 @@ view_between v (by_ccd w) = view_passed v kind.ccd w
 view_between v (by_infrared w) = v
 view_between v (by_controller w) = view_answered v w
 
-unfoldable pub answer_in : View → Given → Option Passing
-answer_in v nothing = none
-answer_in v (by_ccd w) = some (passing_in v w)
-answer_in v (by_infrared w) = none
-answer_in v (by_controller w) = none
+unfoldable pub answer_in : View → Given → Option (Result Outcome PassError)
+answer_in v nothing = None
+answer_in v (by_ccd w) = Some (passing_in v w)
+answer_in v (by_infrared w) = None
+answer_in v (by_controller w) = None
 
 -- at a tick, by whether the head is busy after it: a task that has ended makes a block due and clears the flags
 abbrev pub ends_in : View → Bool → Bool
@@ -143,7 +145,7 @@ view_ticked v later = cond (ends_in v later) (marking v 0 0 state.no_task) v
 unfoldable pub flag_word_in : View → Bool → CcdBits → Option ℕ
 flag_word_in v later bits =
     cond (ends_in v later)
-    (some
+    (Some
     (vis_flag_word
     (record {
       acquired = acquisition (task_of v.task);
@@ -152,4 +154,4 @@ flag_word_in v later bits =
       latchup = bits.latchup;
       lampon = is_set (on v.lamp);
     })))
-    none
+    None

@@ -3,7 +3,7 @@
 -- Assumes nothing.
 use mathlib.Core.Path.{◌≡◌, refl, sym, ap, ◌∙◌}
 use mathlib.Core.Bool.{Bool, true, false, cond, not, ◌&&◌, ◌||◌, false≢true}
-use mathlib.Core.Option.{some}
+use Rattle.std.specs.Prelude.{Some, Result, Ok, Err}
 use Prim.Native.Nat.{ℕ}
 use native.Mathlib.Omega.{arith}
 use borrow.Author.Tests.{eqb-true, eq-eqb, lt-ltb}
@@ -11,8 +11,9 @@ use lib.Dec.{eqb, ltb}
 use Rattle.words.specs.Kinds as kind
 use Rattle.words.specs.Kinds.{group_of, rows}
 use Rattle.words.specs.Codec.{decode_of}
-use Rattle.words.specs.declared.Decoded.{Decoded}
-use Rattle.words.specs.declared.Decoded.TheVariants.{Word, Unknown, OutOfRange}
+use Rattle.words.specs.declared.Word.{Word}
+use Rattle.words.specs.declared.DecodeError.{DecodeError}
+use Rattle.words.specs.declared.DecodeError.TheVariants.{Unknown, OutOfRange}
 use Rattle.words.proofs.Tests.{and_left, and_right}
 use Rattle.head.specs.Limits.{hk_ticks, length_of}
 use Rattle.head.specs.State.{none_begun, no_task, acquisition, housekeeping}
@@ -28,7 +29,7 @@ use Rattle.head.specs.declared.word.Act.TheVariants.{None}
 use Rattle.head.specs.declared.word.Outcome.TheVariants.{Taken}
 use Rattle.head.proofs.Bounds.{Working, idle, acquiring, requesting, bounds}
 use Rattle.operators.specs.Passing.{is_operator, in_group, passes, passed_on}
-use Rattle.operators.specs.declared.Passing.TheVariants.{NotPassed, Passed}
+use Rattle.operators.specs.declared.PassError.TheVariants.{NotPassed}
 use Rattle.operators.specs.declared.PassedOn.{PassedOn}
 use Rattle.observation.specs.Run.{Given, nothing, by_ccd, by_infrared, by_controller, between}
 use Rattle.observation.specs.Observation.{answer_to}
@@ -106,11 +107,11 @@ out-flags k f = go (for_vis k) (mirror_word k || eqb k kind.switch) (for_both k)
     go false false true = (refl, refl)
     go false false false = (refl, refl)
 
-on-decoded-view : (s : Head) (d : Decoded) → view (on_decoded s d).head ≡ view_decoded (view s) d
+on-decoded-view : (s : Head) (d : Result Word DecodeError) → view (on_decoded s d).head ≡ view_decoded (view s) d
 unfolding on_decoded view_decoded
-on-decoded-view s Unknown = refl
-on-decoded-view s (OutOfRange k) = rw ((out-flags k s.flags).0, (out-flags k s.flags).1)
-on-decoded-view s (Word k b) = on-word-view s k b
+on-decoded-view s (Err Unknown) = refl
+on-decoded-view s (Err (OutOfRange k)) = rw ((out-flags k s.flags).0, (out-flags k s.flags).1)
+on-decoded-view s (Ok w) = on-word-view s w.kind w.bits
 
 -- any word that the head gets
 pub answer-view : (s : Head) (w : ℕ) → in_range s ≡ true → view (answer_of s w).head ≡ view_answered (view s) w
@@ -159,8 +160,8 @@ ccd-taken s k b g =
 -- a word of an operator, by whether it is passed on
 abbrev pub passed_if : Bool → Head → ℕ → PassedOn
 passed_if x s w =
-    cond {A = PassedOn} (not x) (record { head = s; passing = NotPassed })
-    (record { head = (answer_of s w).head; passing = Passed (answer_of s w).outcome })
+    cond {A = PassedOn} (not x) (record { head = s; passing = Err NotPassed })
+    (record { head = (answer_of s w).head; passing = Ok (answer_of s w).outcome })
 
 module _ (s : Head) (h : in_range s ≡ true) where
   passes-in : (g w : ℕ) → passes s g w ≡ passes_in (view s) g w
@@ -201,10 +202,9 @@ module _ (s : Head) (h : in_range s ≡ true) where
   unfolding passed_on in_group view_decoded
   infrared-unseen w = rw h (go (passes s kind.infrared w) refl)
     where
-      decoded : (d : Decoded) → in_group kind.infrared d ≡ true → view_decoded (view s) d ≡ view s
-      decoded (Word k b) e = infrared-view (view s) k b (eqb-true (group_of k) kind.infrared e)
-      decoded Unknown e = absurd (false≢true e)
-      decoded (OutOfRange k) e = absurd (false≢true e)
+      decoded : (d : Result Word DecodeError) → in_group kind.infrared d ≡ true → view_decoded (view s) d ≡ view s
+      decoded (Ok w) e = infrared-view (view s) w.kind w.bits (eqb-true (group_of w.kind) kind.infrared e)
+      decoded (Err r) e = absurd (false≢true e)
 
       go : (x : Bool) → passes s kind.infrared w ≡ x
           → view (passed_if x s w).head
@@ -219,14 +219,13 @@ module _ (s : Head) (h : in_range s ≡ true) where
   unfolding passed_on passing_in in_group on_decoded
   ccd-answer w = rw (h, ← passes-in kind.ccd w) (go (passes s kind.ccd w) refl)
     where
-      decoded : (d : Decoded) → in_group kind.ccd d ≡ true → (on_decoded s d).outcome ≡ Taken None
-      decoded (Word k b) e = ccd-taken s k b (eqb-true (group_of k) kind.ccd e)
-      decoded Unknown e = absurd (false≢true e)
-      decoded (OutOfRange k) e = absurd (false≢true e)
+      decoded : (d : Result Word DecodeError) → in_group kind.ccd d ≡ true → (on_decoded s d).outcome ≡ Taken None
+      decoded (Ok w) e = ccd-taken s w.kind w.bits (eqb-true (group_of w.kind) kind.ccd e)
+      decoded (Err r) e = absurd (false≢true e)
 
       go : (x : Bool) → passes s kind.ccd w ≡ x
           → (passed_if x s w).passing
-          ≡ cond x (Passed (Taken None)) NotPassed
+          ≡ cond x (Ok (Taken None)) (Err NotPassed)
       go false e = refl
       go true e = rw (passed-word kind.ccd w e, decoded (decode_of w) (passed-group kind.ccd w e))
 
@@ -241,6 +240,6 @@ module _ (s : Head) (h : in_range s ≡ true) where
   pub answer-in : (g : Given) → answer_to s g ≡ answer_in (view s) (not_infrared g)
   unfolding answer_to answer_in not_infrared
   answer-in nothing = refl
-  answer-in (by_ccd w) = ap some (ccd-answer w)
+  answer-in (by_ccd w) = ap Some (ccd-answer w)
   answer-in (by_infrared w) = refl
   answer-in (by_controller w) = refl

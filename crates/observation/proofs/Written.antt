@@ -3,7 +3,7 @@
 use mathlib.Core.Path.{◌≡◌, sym, ap, ◌∙◌}
 use mathlib.Core.Bool.{Bool, true}
 use mathlib.Core.List.{List, ◌++◌}
-use mathlib.Core.Option.{some}
+use Rattle.std.specs.Prelude.{Some}
 use Prim.Native.Nat.{ℕ, ◌+◌}
 use borrow.Author.Tests.{eq-eqb}
 use lib.ListN.{length, get_or}
@@ -35,7 +35,7 @@ module _ (s : Head) (readings : List ℕ) (bits : CcdBits) (many : length readin
 
   -- where buffers have their lengths, and the state is in range
   pub word-written : (due : Due) (ir ccd : List ℕ) (w : ℕ) → in_range s ≡ true → length ir ≡ ir_words → length ccd ≡ ccd_words
-      → flag_word_due s due bits ≡ some w → get_or (ccd_due_after s due readings bits ir ccd) flag_place 0 ≡ w
+      → flag_word_due s due bits ≡ Some w → get_or (ccd_due_after s due readings bits ir ccd) flag_place 0 ≡ w
   unfolding flag_word_due ccd_due_after both_written_of written_of written_if buffer_after
   word-written (Blocks ended flags) ir ccd w h i c e =
       rw (eq-eqb (length ccd) ccd_words c, eq-eqb (length ir) ir_words i, h) (last_word flags (acquisition ended) ∙ cc)

@@ -1,10 +1,10 @@
 -- Document 02, request P6: what the CCD operator observes of a run. The block's sine and cosine, and its readings, are not his.
 -- Assumes nothing.
-use Rattle.std.specs.Prelude.{ℕ, List, [], ◌∷◌}
-use Rattle.std.proofs.Math.Option.{Option, none, some}
+use Rattle.std.specs.Prelude.{ℕ, Option, None, Some, Result, List, [], ◌∷◌}
 use Rattle.words.specs.Kinds.{ccd}
 use Rattle.head.specs.Tick.{tick_of}
 use Rattle.head.specs.declared.state.Head.{Head}
+use Rattle.head.specs.declared.word.Outcome.{Outcome}
 use Rattle.head.specs.declared.tick.Due.{Due}
 use Rattle.head.specs.declared.tick.Due.TheVariants as due
 use Rattle.status.specs.Status.{vis_flag_word}
@@ -12,7 +12,7 @@ use Rattle.blocks.specs.Ccd.{ccd_shown}
 use Rattle.blocks.specs.declared.ccd.CcdBits.{CcdBits}
 use Rattle.due.specs.Due.{acquisition}
 use Rattle.operators.specs.Passing.{passed_on}
-use Rattle.operators.specs.declared.Passing.{Passing}
+use Rattle.operators.specs.declared.PassError.{PassError}
 use Rattle.observation.specs.Run.{Given, nothing, by_ccd, by_infrared, by_controller, Moment, between, next, head_after}
 
 -- The CCD registers: X1, Y1, X2, Y2, delay, expo, lamp.
@@ -22,23 +22,23 @@ ccd_registers s =
     r.x1 ∷ r.y1 ∷ r.x2 ∷ r.y2 ∷ r.ccddelay ∷ r.ccdexpo ∷ r.ccdlamp ∷ []
 
 -- What his own word is answered: a refusal, or the head's answer.
-unfoldable pub answer_to : Head → Given → Option Passing
-answer_to s nothing = none
-answer_to s (by_ccd w) = some (passed_on s ccd w).passing
-answer_to s (by_infrared w) = none
-answer_to s (by_controller w) = none
+unfoldable pub answer_to : Head → Given → Option (Result Outcome PassError)
+answer_to s nothing = None
+answer_to s (by_ccd w) = Some (passed_on s ccd w).passing
+answer_to s (by_infrared w) = None
+answer_to s (by_controller w) = None
 
 -- The VIS flag word of the CCD block, where a tick says that it is due; s is the head after the tick.
 unfoldable pub flag_word_due : Head → Due → CcdBits → Option ℕ
-flag_word_due s due.Nothing bits = none
-flag_word_due s (due.Blocks ended flags) bits = some (vis_flag_word (ccd_shown s flags (acquisition ended) bits).flags)
-flag_word_due s due.Refused bits = none
+flag_word_due s due.Nothing bits = None
+flag_word_due s (due.Blocks ended flags) bits = Some (vis_flag_word (ccd_shown s flags (acquisition ended) bits).flags)
+flag_word_due s due.Refused bits = None
 
 -- One tick: the registers as it begins, the answer to his word, the registers between the word and the tick, and the flag word if a block
 -- is due.
 pub record Seen : Type 0 where
   pub before : List ℕ
-  pub answer : Option Passing
+  pub answer : Option (Result Outcome PassError)
   pub meanwhile : List ℕ
   pub flag_word : Option ℕ
 

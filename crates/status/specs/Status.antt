@@ -2,7 +2,8 @@
 -- the names of source document 000's drawing. Bit 1 of a flag word is a field whose value is always 1; the bits of no field are 0.
 -- Assumes nothing.
 use Rattle.std.specs.Prelude.{ℕ, Bool, List, [], ◌∷◌, eqb, get_or}
-use Rattle.bitfields.specs.Fields.{Field, field}
+use Rattle.bitfields.specs.declared.Field.{Field}
+use Rattle.bitfields.specs.Fields.{field}
 pub use Rattle.bitfields.specs.Fields.{bit, is_set}
 unfoldable pub use Rattle.bitfields.specs.Fields.{composed, values_in}
 use Rattle.status.specs.declared.LampShutter.{LampShutter}

@@ -1,14 +1,15 @@
-// The status words of the two blocks, from meaning to bits and back, by the tables of their fields. `values` and `of_values` have the
-// fields' values in the table's order.
+// The status words of the two blocks, from meaning to bits and back, by the tables of their fields.
 #![tactic(auto)]
 
 mod tables;
+mod word;
 
 ghost use Rattle.std.specs.Prelude.{◌≡◌};
-ghost use Rattle.status.specs.Status.{lamp_shutter_values, lamp_shutter_of, lamp_shutter_word, lamp_shutter_in, lamp_shutter_right, sine_values, sine_of, sine_word, sine_in, sine_right, ir_flag_values, ir_flags_of, ir_flag_word, ir_flags_in, ir_flags_right, vis_flag_values, vis_flags_of, vis_flag_word, vis_flags_in, vis_flags_right};
+ghost use Rattle.status.specs.Status.{lamp_shutter_word, lamp_shutter_in, sine_word, sine_in, ir_flag_word, ir_flags_in, vis_flag_word, vis_flags_in};
 
-use crate::tables::{ALWAYS_SET, ir_flags, lamp_shutter, sine, vis_flags};
-use bitfields::{compose, values_in};
+use crate::tables::{ALWAYS_SET, IR_FLAGS, LAMP_SHUTTER, SINE, VIS_FLAGS};
+pub use crate::word::StatusWord;
+use bitfields::{compose, values_of};
 
 // The lamp and shutter word of the IR block.
 #[derive(Clone, Copy)]
@@ -53,21 +54,25 @@ pub struct VisFlags {
     pub lampon: bool,
 }
 
-impl LampShutter {
-    fn values(self) -> [u16; 4]
-        ensures { result ≡ lamp_shutter_values self }
-    {
-        [
+impl StatusWord for LampShutter {
+    ghost word_of = { lamp_shutter_word };
+
+    ghost said_in = { lamp_shutter_in };
+
+    fn word(self) -> u16 {
+        let values = [
             self.lampcurrent,
-            self.lampon as u16,
+            u16::from(self.lampon),
             self.shuttercurrent,
-            self.closed as u16,
-        ]
+            u16::from(self.closed),
+        ];
+        compose(&LAMP_SHUTTER, &values)
     }
 
-    fn of_values(values: [u16; 4]) -> LampShutter
-        ensures { result ≡ lamp_shutter_of values }
+    fn in_word(word: u16) -> LampShutter
+        ensures { result ≡ lamp_shutter_in word }
     {
+        let values = values_of(&LAMP_SHUTTER, word);
         LampShutter {
             lampcurrent: values[0],
             lampon: values[1] == 1,
@@ -75,97 +80,55 @@ impl LampShutter {
             closed: values[3] == 1,
         }
     }
-
-    pub fn word(self) -> u16
-        ensures { result ≡ lamp_shutter_word self }
-    {
-        let fields = lamp_shutter();
-        let values = self.values();
-        compose(&fields, &values)
-    }
-
-    pub fn in_word(w: u16) -> LampShutter
-        ensures { result ≡ lamp_shutter_in w }
-    {
-        let fields = lamp_shutter();
-        let mut values = [0u16; 4];
-        values_in(&fields, w, &mut values);
-        LampShutter::of_values(values)
-    }
-
-    // Whether each fixed bit of the word is right: the word is that of what it says.
-    pub fn right(w: u16) -> bool
-        ensures { result ≡ lamp_shutter_right w }
-    {
-        let said = LampShutter::in_word(w);
-        said.word() == w
-    }
 }
 
-impl Sine {
-    fn values(self) -> [u16; 2]
-        ensures { result ≡ sine_values self }
-    {
-        [self.magnitude, self.negative as u16]
+impl StatusWord for Sine {
+    ghost word_of = { sine_word };
+
+    ghost said_in = { sine_in };
+
+    fn word(self) -> u16 {
+        let values = [self.magnitude, u16::from(self.negative)];
+        compose(&SINE, &values)
     }
 
-    fn of_values(values: [u16; 2]) -> Sine
-        ensures { result ≡ sine_of values }
+    fn in_word(word: u16) -> Sine
+        ensures { result ≡ sine_in word }
     {
+        let values = values_of(&SINE, word);
         Sine {
             magnitude: values[0],
             negative: values[1] == 1,
         }
     }
-
-    pub fn word(self) -> u16
-        ensures { result ≡ sine_word self }
-    {
-        let fields = sine();
-        let values = self.values();
-        compose(&fields, &values)
-    }
-
-    pub fn in_word(w: u16) -> Sine
-        ensures { result ≡ sine_in w }
-    {
-        let fields = sine();
-        let mut values = [0u16; 2];
-        values_in(&fields, w, &mut values);
-        Sine::of_values(values)
-    }
-
-    // Whether each fixed bit of the word is right: the word is that of what it says.
-    pub fn right(w: u16) -> bool
-        ensures { result ≡ sine_right w }
-    {
-        let said = Sine::in_word(w);
-        said.word() == w
-    }
 }
 
-impl IrFlags {
-    fn values(self) -> [u16; 11]
-        ensures { result ≡ ir_flag_values self }
-    {
-        [
-            self.acquired as u16,
+impl StatusWord for IrFlags {
+    ghost word_of = { ir_flag_word };
+
+    ghost said_in = { ir_flags_in };
+
+    fn word(self) -> u16 {
+        let values = [
+            u16::from(self.acquired),
             ALWAYS_SET,
-            self.time as u16,
-            self.word as u16,
-            self.scan as u16,
-            self.detector as u16,
-            self.latchup as u16,
-            self.annealing as u16,
-            self.opens as u16,
-            self.notclosed as u16,
-            self.notopen as u16,
-        ]
+            u16::from(self.time),
+            u16::from(self.word),
+            u16::from(self.scan),
+            u16::from(self.detector),
+            u16::from(self.latchup),
+            u16::from(self.annealing),
+            u16::from(self.opens),
+            u16::from(self.notclosed),
+            u16::from(self.notopen),
+        ];
+        compose(&IR_FLAGS, &values)
     }
 
-    fn of_values(values: [u16; 11]) -> IrFlags
-        ensures { result ≡ ir_flags_of values }
+    fn in_word(word: u16) -> IrFlags
+        ensures { result ≡ ir_flags_in word }
     {
+        let values = values_of(&IR_FLAGS, word);
         IrFlags {
             acquired: values[0] == 1,
             time: values[2] == 1,
@@ -179,50 +142,29 @@ impl IrFlags {
             notopen: values[10] == 1,
         }
     }
-
-    pub fn word(self) -> u16
-        ensures { result ≡ ir_flag_word self }
-    {
-        let fields = ir_flags();
-        let values = self.values();
-        compose(&fields, &values)
-    }
-
-    pub fn in_word(w: u16) -> IrFlags
-        ensures { result ≡ ir_flags_in w }
-    {
-        let fields = ir_flags();
-        let mut values = [0u16; 11];
-        values_in(&fields, w, &mut values);
-        IrFlags::of_values(values)
-    }
-
-    // Whether each fixed bit of the word is right: the word is that of what it says.
-    pub fn right(w: u16) -> bool
-        ensures { result ≡ ir_flags_right w }
-    {
-        let said = IrFlags::in_word(w);
-        said.word() == w
-    }
 }
 
-impl VisFlags {
-    fn values(self) -> [u16; 6]
-        ensures { result ≡ vis_flag_values self }
-    {
-        [
-            self.acquired as u16,
+impl StatusWord for VisFlags {
+    ghost word_of = { vis_flag_word };
+
+    ghost said_in = { vis_flags_in };
+
+    fn word(self) -> u16 {
+        let values = [
+            u16::from(self.acquired),
             ALWAYS_SET,
-            self.time as u16,
-            self.word as u16,
-            self.latchup as u16,
-            self.lampon as u16,
-        ]
+            u16::from(self.time),
+            u16::from(self.word),
+            u16::from(self.latchup),
+            u16::from(self.lampon),
+        ];
+        compose(&VIS_FLAGS, &values)
     }
 
-    fn of_values(values: [u16; 6]) -> VisFlags
-        ensures { result ≡ vis_flags_of values }
+    fn in_word(word: u16) -> VisFlags
+        ensures { result ≡ vis_flags_in word }
     {
+        let values = values_of(&VIS_FLAGS, word);
         VisFlags {
             acquired: values[0] == 1,
             time: values[2] == 1,
@@ -230,30 +172,5 @@ impl VisFlags {
             latchup: values[4] == 1,
             lampon: values[5] == 1,
         }
-    }
-
-    pub fn word(self) -> u16
-        ensures { result ≡ vis_flag_word self }
-    {
-        let fields = vis_flags();
-        let values = self.values();
-        compose(&fields, &values)
-    }
-
-    pub fn in_word(w: u16) -> VisFlags
-        ensures { result ≡ vis_flags_in w }
-    {
-        let fields = vis_flags();
-        let mut values = [0u16; 6];
-        values_in(&fields, w, &mut values);
-        VisFlags::of_values(values)
-    }
-
-    // Whether each fixed bit of the word is right: the word is that of what it says.
-    pub fn right(w: u16) -> bool
-        ensures { result ≡ vis_flags_right w }
-    {
-        let said = VisFlags::in_word(w);
-        said.word() == w
     }
 }

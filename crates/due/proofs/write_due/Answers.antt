@@ -1,67 +1,37 @@
 -- `due::write_due` meets its contract.
-use Prim.Native.Nat.{ℕ}
-use mathlib.Core.Bool.{Bool}
-use mathlib.Core.List.{List}
-use mathlib.Core.Path.{◌≡◌, refl, ap}
-use Rattle.head.specs.declared.state.Head.{Head}
-use Rattle.head.specs.declared.state.Flags.{Flags}
+use Rattle.std.proofs.Common.{◌≡◌, ◌∙◌, ap, refl, inl, inr}
+use Rattle.std.specs.Prelude.{Some}
+use denote.Enum.Bare.{sameb}
+use Rattle.head.specs.contracts.state.Task as task
 use Rattle.head.specs.declared.state.Task.{Task}
-use Rattle.head.specs.declared.tick.Due.{Due}
-use Rattle.head.specs.declared.tick.Due.TheVariants as due
-use Rattle.blocks.specs.Written.{buffer_after}
-use Rattle.blocks.specs.Ir.{ir_block_of}
-use Rattle.blocks.specs.Ccd.{ccd_block_of}
-use Rattle.blocks.specs.declared.written.Written.{Written}
-use Rattle.blocks.specs.declared.ir.IrBits.{IrBits}
-use Rattle.blocks.specs.declared.ccd.CcdBits.{CcdBits}
-use Rattle.due.specs.declared.DueWritten.TheVariants.{Blocks}
-use Rattle.due.specs.Due.{acquisition, both_written_of, due_written_of, due_number, ir_due_after, ccd_due_after}
-use Rattle.due.proofs.Numbered.{due-numbered}
-use borrow.Author.Rules.{rules}
+use Rattle.head.specs.declared.state.Task.TheVariants.{Idle, Acquisition, Housekeeping}
+use Rattle.due.specs.Due.{acquisition, due_written_of, due_number, ir_due_after, ccd_due_after}
 use Rattle.due.proofs.write_due.Goals as goal
 
--- where blocks are due, what writing both answers and leaves
-module _ (s : Head) (d : Due) (ended : Task) (flags : Flags) (acquired : Bool) (w : Written) (ir ccd : List ℕ)
-    (told : d ≡ due.Blocks ended flags) (first : acquired ≡ acquisition ended) (both : w ≡ both_written_of s ir ccd) where
-  blocks-due : Blocks w ≡ due_written_of s d ir ccd
-  unfolding due_written_of
-  blocks-due = rw told (ap Blocks both)
-
-  ir-due : (after readings : List ℕ) (bits : IrBits) → after ≡ buffer_after w (ir_block_of s flags acquired readings bits) ir
-      → after ≡ ir_due_after s d readings bits ir ccd
-  unfolding ir_due_after
-  ir-due after readings bits left = rw told (rw (both, first) at left)
-
-  ccd-due : (after readings : List ℕ) (bits : CcdBits) → after ≡ buffer_after w (ccd_block_of s flags acquired readings bits) ccd
-      → after ≡ ccd_due_after s d readings bits ir ccd
-  unfolding ccd_due_after
-  ccd-due after readings bits left = rw told (rw (both, first) at left)
-
-pub returns-in-Nothing : goal.returns-in-Nothing
-unfolding due_written_of ir_due_after ccd_due_after due_number
-returns-in-Nothing c =
-    let told = c.in-Nothing.is in
-    record { value = rw told; result_value = rw told; result_value_2 = refl; ir_after = rw told; ccd_after = rw told }
+is_acquisition : (t : Task) → sameb task.the_type t Acquisition ≡ acquisition t
+unfolding acquisition
+is_acquisition Idle = refl
+is_acquisition Acquisition = refl
+is_acquisition Housekeeping = refl
 
 pub returns-in-Blocks : goal.returns-in-Blocks
+unfolding due_written_of due_number ir_due_after ccd_due_after
 returns-in-Blocks c =
-    let is : Blocks c.write_both.result ≡ due_written_of c.args.ticked.head c.args.ticked.due c.args.ir.now c.args.ccd.now =
-    search (rules, blocks-due) in
-    let ir : c.write_both.new.ir ≡ ir_due_after c.args.ticked.head c.args.ticked.due c.args.given.irreadings c.args.given.irbits c.args.ir.now c.args.ccd.now =
-    search (rules, ir-due) in
-    let ccd : c.write_both.new.ccd ≡ ccd_due_after c.args.ticked.head c.args.ticked.due c.args.given.ccdreadings c.args.given.ccdbits c.args.ir.now c.args.ccd.now =
-    search (rules, ccd-due) in
-    let told = due-numbered _ _ _ _ _ is _ _ _ _ _ _ ir ccd in
+    let told = c.in-Blocks.is in
+    let both = c.write_both.ensures in
+    let acquired : c.eq-acquired.result ≡ acquisition c.in-Blocks.ended = c.eq-acquired.ensures ∙ is_acquisition c.in-Blocks.ended in
     record {
-      value = is;
-      result_value = told.1.0;
-      result_value_2 = told.1.1.0;
-      ir_after = ir;
-      ccd_after = ccd;
+      value = rw told (ap Some both.value);
+      number = rw told both.number;
+      place = both.place;
+      ir_after = rw told (rw (both.value, acquired) at both.ir_after);
+      ccd_after = rw told (rw (both.value, acquired) at both.ccd_after);
     }
 
-pub returns-in-Refused : goal.returns-in-Refused
-unfolding due_written_of ir_due_after ccd_due_after due_number
-returns-in-Refused c =
-    let told = c.in-Refused.is in
-    record { value = rw told; result_value = rw told; result_value_2 = refl; ir_after = rw told; ccd_after = rw told }
+pub returns-in-Nothing : goal.returns-in-Nothing
+unfolding due_written_of due_number ir_due_after ccd_due_after
+returns-in-Nothing c =
+    elim c.in-Nothing.is [
+      | inl told ↦ record { value = rw told; number = rw told; place = refl; ir_after = rw told; ccd_after = rw told }
+      | inr told ↦ record { value = rw told; number = rw told; place = refl; ir_after = rw told; ccd_after = rw told }
+    ]

@@ -1,8 +1,9 @@
 -- `blocks::ir::write_ir` meets its contract.
-use mathlib.Core.Path.{◌≡◌}
+use Rattle.std.proofs.Common.{◌≡◌, ◌∙◌, ap}
+use Rattle.blocks.specs.Numbers.{written_number, written_place}
 use Rattle.blocks.specs.Written.{written_of, buffer_after}
 use Rattle.blocks.specs.Ir.{ir_words, ir_status, ir_block_of}
-use Rattle.blocks.proofs.Numbered.{write-numbered}
+use Rattle.blocks.proofs.Numbered.{written-number, written-place}
 use Rattle.blocks.proofs.Writing.{written-by, written-left}
 use borrow.Author.Rules.{rules}
 use Rattle.blocks.proofs.ir.write_ir.Goals as goal
@@ -14,5 +15,9 @@ returns c =
     search (rules, written-by 14 6) in
     let left : c.write_block.new.buffer ≡ buffer_after c.write_block.result (ir_block_of c.args.head c.args.flags c.args.acquired c.args.readings c.args.bits) c.args.buffer.now =
     search (rules, written-left ir_status) in
-    let told = write-numbered _ _ _ _ is _ _ left in
-    record { value = is; result_value = told.1.0; result_value_2 = told.1.1.0; buffer_after = left }
+    record {
+      value = is;
+      number = ap written_number is ∙ written-number ir_words c.args.head c.args.buffer.now;
+      place = ap written_place is ∙ written-place ir_words c.args.head c.args.buffer.now;
+      buffer_after = left;
+    }

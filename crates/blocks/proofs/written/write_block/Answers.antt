@@ -15,4 +15,9 @@ returns-then-not-in_range c = search (rules, equal, stops)
 
 pub returns : goal.returns
 unfolding written_if buffer_after
-returns c = search (rules, equal, passes, copied-both)
+returns c =
+    record {
+      value = search (rules, equal, passes);
+      buffer_after =
+          copied-both c.args.buffer.now c.copy_from_slice.new.self c.copy_from_slice-2.new.self c.args.readings.now c.args.status.now c.copy_from_slice.ensures.after c.copy_from_slice-2.ensures.after;
+    }

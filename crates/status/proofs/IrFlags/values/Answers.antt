@@ -1,7 +1,0 @@
--- `status::IrFlags::values` meets its contract.
-use mathlib.Core.Path.{refl}
-use Rattle.bitfields.proofs.Flags.{flag-number}
-use Rattle.status.proofs.IrFlags.values.Goals as goal
-
-pub returns : goal.returns
-returns c = simp flag-number refl
