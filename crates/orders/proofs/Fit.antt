@@ -1,18 +1,16 @@
--- How the code judges the fields of an order, and what an order whose fields fit says of them.
+-- What holds of every order by its code, and what an order whose fields fit says of them.
 -- Assumes nothing.
-use mathlib.Core.Path.{◌≡◌, refl, sym, subst}
-use mathlib.Core.Bool.{Bool, true, false, ◌&&◌, ◌||◌, and-true, false≢true}
+use mathlib.Core.Path.{◌≡◌, subst}
+use mathlib.Core.Bool.{true, false≢true}
 use mathlib.Core.List.{List, [], ◌∷◌}
-use Prim.Native.Nat.{ℕ, zero, suc, ◌+◌, ◌<◌, ◌≤◌}
-use native.Mathlib.Decide.{ℕ_discrete, dec_le}
+use Prim.Native.Nat.{ℕ, zero, suc, ◌<◌, ◌≤◌}
+use native.Mathlib.Decide.{ℕ_discrete}
 use native.Mathlib.Omega.{arith}
-use borrow.Author.Tests.{ne_eqb, le-leb, leb-true}
+use borrow.Author.Tests.{leb-true}
 use lib.Arith.{lt_of_le-ne}
-use lib.Dec.{leb, leb-zero, eqb}
-use lib.ListN.{get_or-eq_default}
+use lib.Dec.{leb}
 use Rattle.words.proofs.Tests.{and_left, and_right}
-use Rattle.orders.specs.Codes as code
-use Rattle.orders.specs.Codes.{Range, ◌to◌, rows, row_of, holds, within, fields_of, related, recoded, fields_fit, known, fit, window, mirror, cover}
+use Rattle.orders.specs.Codes.{Range, row_of, holds, within, fields_of, related, recoded, fields_fit, known, fit}
 use Rattle.orders.specs.declared.order.Order.{Order}
 
 -- what holds at n, and from there on, holds of every number that is at least n
@@ -23,72 +21,10 @@ from P c n here later h = go (ℕ_discrete n c)
     go (yes e) = subst P e here
     go (no ne) = later (lt_of_le-ne h ne)
 
--- the fields of a code that has one that is judged, or two, and nothing related
-module _ (o : Order) (alone : related o ≡ true) where
-  pub fits_one : (m : ℕ) → (row_of o.code).fields ≡ 0 to m ∷ [] → leb o.a m ≡ fields_fit o
-  unfolding fields_fit within
-  fits_one m row = rw (row, alone, leb-zero o.a, and-true (leb o.a m), and-true (leb o.a m))
-
-  pub fits-from : (l m n : ℕ) → (row_of o.code).fields ≡ l to m ∷ 0 to n ∷ []
-      → (leb l o.a && leb o.a m && leb o.b n) ≡ fields_fit o
-  unfolding fields_fit within
-  fits-from l m n row =
-      rw (row, alone, leb-zero o.b, and-true (leb o.b n), and-true (leb l o.a && leb o.a m && leb o.b n))
-
-  pub fits-two : (m n : ℕ) → (row_of o.code).fields ≡ 0 to m ∷ 0 to n ∷ [] → (leb o.a m && leb o.b n) ≡ fields_fit o
-  fits-two m n row = rw (leb-zero o.a) at (fits-from 0 m n row)
-
-four : (a b c d : Bool) → (a && b && (c && d)) ≡ (a && (b && (c && (d && true))))
-four true true true d = sym (and-true d)
-four true true false d = refl
-four true false c d = refl
-four false b c d = refl
-
 -- how `match` says that a code is none of those up to n
 abbrev pub Apart : ℕ → ℕ → Type 0
 Apart c zero = Unit {0}
 Apart c (suc n) = Apart c n × (c ≡ suc n → ⊥)
-
-past : (n c : ℕ) → Apart c n → 1 ≤ c → n < c
-past zero c h p = p
-past (suc n) c h p = lt_of_le-ne (past n c h.0 p) (λ e. h.1 (sym e))
-
-module _ (o : Order) where
-  pub fits-window : (leb o.a 148 && leb o.b 0 && (leb 875 o.c && leb o.c 1023 && (leb 511 o.d && leb o.d 511)) && eqb o.c (o.a + 875))
-      ≡ fields_fit (recoded window o)
-  unfolding fields_fit within related rows
-  fits-window =
-      rw (leb-zero o.a, leb-zero o.b, four (leb o.a 148) (leb o.b 0) (leb 875 o.c && leb o.c 1023) (leb 511 o.d && leb o.d 511))
-
-  pub fits-cover : (leb o.a 1 && leb o.b 1 && (leb o.c 1 && leb o.d 81)) ≡ fields_fit (recoded cover o)
-  unfolding fields_fit within related rows
-  fits-cover =
-      rw (
-        leb-zero o.a,
-        leb-zero o.b,
-        leb-zero o.c,
-        leb-zero o.d,
-        four (leb o.a 1) (leb o.b 1) (leb o.c 1) (leb o.d 81),
-        and-true (leb o.a 1 && (leb o.b 1 && (leb o.c 1 && (leb o.d 81 && true)))),
-      )
-
-  module _ (room : o.a < 65536) where
-    pub fits-mirror : (leb o.b 4095 && (leb o.a 4095 || leb 61441 o.a)) ≡ fields_fit (recoded mirror o)
-    unfolding fields_fit within related rows
-    fits-mirror = rw (leb-zero o.a, le-leb o.a 65535 (omega arith), leb-zero o.b, and-true (leb o.b 4095))
-
-    -- an order of no code, or of one past the cover's, has nothing that is judged
-    pub fits-rest : Apart o.code 14 → true ≡ fields_fit o
-    unfolding fields_fit within related rows
-    fits-rest apart = go (dec_le o.code 17) (ℕ_discrete 0 o.code)
-      where
-        go : Dec (o.code ≤ 17) → Dec (0 ≡ o.code) → true ≡ fields_fit o
-        go k (yes e) = rw (← e)
-        go (yes k) (no ne) =
-            from (λ n. true ≡ fields_fit (recoded n o)) o.code 15 refl (from (λ n. true ≡ fields_fit (recoded n o)) o.code 16 refl
-            (from (λ n. true ≡ fields_fit (recoded n o)) o.code 17 (rw (leb-zero o.a, le-leb o.a 65535 (omega arith))) (λ h. absurd (omega arith))))
-            (past 14 o.code apart (lt_of_le-ne (omega arith) ne))
-        go (no k) (no ne) = rw (get_or-eq_default rows (code.b []) {n = o.code} (omega arith), ne_eqb o.code window (λ e. omega arith), ne_eqb o.code mirror (λ e. omega arith))
 
 -- what holds of each of the codes holds of every known one
 module _ (P : ℕ → Type 0)

@@ -2,16 +2,14 @@
 -- Assumes nothing.
 use mathlib.Core.Path.{◌≡◌, refl}
 use mathlib.Core.List.{List, []}
-use Prim.Native.Nat.{ℕ, ◌+◌, ◌-◌, ◌*◌, ◌^◌, ◌<◌, ◌≤◌, ◌/◌, ◌%◌}
+use Prim.Native.Nat.{ℕ, ◌+◌, ◌-◌, ◌*◌, ◌<◌, ◌≤◌}
 use native.Mathlib.Decide.{dec_le}
 use native.Mathlib.Omega.{arith}
 use borrow.Author.Tests.{le-leb, lt-leb}
 use lib.Dec.{T}
 use lib.ListN.{length, get_or, get_or-eq_default}
-use mir.Syntax.{w64}
-use mir.Val.{Fits}
 use Rattle.words.proofs.Tables.{agree, agree_at}
-use Rattle.orders.specs.Codes.{Row, b, rows, row_of, place_of, digit_at, count_of, width_of, length_of}
+use Rattle.orders.specs.Codes.{Row, b, rows, row_of, place_of, count_of, width_of, length_of}
 
 -- the two ways to a code's place
 pub place-code : (code : ℕ) → code ≤ 17 → code ≡ place_of code
@@ -42,23 +40,6 @@ place-below code = go (dec_le code 17)
     go (yes h) = omega (arith, place-code code h)
     go (no h) = omega (arith, place_none code (omega arith))
 
--- octal digits that are what each row says are so for every code
-row_by : (n : ℕ) (g : Row → ℕ) (code : ℕ) → T (agree (λ k. n / 2 ^ (3 * k) % 8) (λ k. g (row_of k)) 18) → digit_at n code ≡ g (row_of code)
-row_by n g code ok =
-    rw (← place-row code) (agree_at (λ k. n / 2 ^ (3 * k) % 8) (λ k. g (row_of k)) 18 ok (place_of code) (place-below code))
-
-pub count_by : (n code : ℕ) → T (agree (λ k. n / 2 ^ (3 * k) % 8) count_of 18) → digit_at n code ≡ count_of code
-unfolding count_of
-count_by n code ok = row_by n (λ r. length r.fields) code ok
-
-pub width-by : (n code : ℕ) → T (agree (λ k. n / 2 ^ (3 * k) % 8) width_of 18) → digit_at n code ≡ width_of code
-unfolding width_of
-width-by n code ok = row_by n (λ r. r.width) code ok
-
-module _ (code p : ℕ) (is : p ≡ place_of code) where
-  pub place-index : p < 18
-  place-index = omega (arith, place-below code)
-
 -- a field has a byte at least
 pub width_some : (code : ℕ) → 1 ≤ width_of code
 unfolding rows width_of
@@ -80,14 +61,3 @@ few code = rows-most (λ r. length r.fields) 4 code tt
 pub length_most : (code : ℕ) → length_of code ≤ 9
 unfolding rows count_of width_of length_of
 length_most code = rows-most (λ r. 1 + r.width * length r.fields) 9 code tt
-
-module _ (code width count : ℕ) (is-width : width ≡ width_of code) (is-count : count ≡ count_of code) where
-  pub length-is : 1 + width * count ≡ length_of code
-  unfolding length_of
-  length-is = rw (is-width, is-count)
-
-  pub length-fits : Fits w64 (1 + width * count)
-  length-fits = record { fits = omega (arith, length-is, length_most code) }
-
-  pub fields_fit : Fits w64 (width * count)
-  fields_fit = record { fits = omega (arith, length-is, length_most code) }

@@ -1,28 +1,19 @@
--- How the code makes the words of an order: one law for each way through it.
+-- An order that sends no words: a wait, and what is no code.
 -- Assumes nothing.
 use mathlib.Core.Path.{◌≡◌}
 use mathlib.Core.Bool.{false, ◌&&◌}
 use mathlib.Core.List.{[]}
-use Prim.Native.Nat.{ℕ, zero, suc, ◌+◌, ◌-◌, ◌%◌, ◌<◌, ◌≤◌}
-use native.Mathlib.Nat.{le_of_suc-le-suc, mod-eq_of_lt}
+use Prim.Native.Nat.{ℕ, zero, suc, ◌≤◌}
+use native.Mathlib.Nat.{le_of_suc-le-suc}
 use native.Mathlib.Decide.{ℕ_discrete}
 use native.Mathlib.Omega.{arith}
-use borrow.Author.Tests.{ne_eqb, lt-ltb, le-ltb}
+use borrow.Author.Tests.{ne_eqb}
 use lib.Arith.{lt_of_le-ne}
 use lib.Dec.{T, leb, leb→le, eqb}
 use Rattle.words.proofs.Tables.{left, right}
-use Rattle.orders.specs.Words.{sine_register, words_of}
+use Rattle.orders.specs.Words.{words_of}
 use Rattle.orders.specs.declared.order.Order.{Order}
 use Rattle.orders.proofs.Fit.{Apart}
-
--- the two ways to a sine
-pub sine-plus : (a : ℕ) → a < 32768 → a ≡ sine_register a
-unfolding sine_register
-sine-plus a h = rw (lt-ltb a 32768 h)
-
-pub sine-minus : (a : ℕ) → 32768 ≤ a → a < 65536 → (4096 + (65536 - a)) % 65536 ≡ sine_register a
-unfolding sine_register
-sine-minus a h fits = rw (le-ltb a 32768 h) (mod-eq_of_lt (omega arith))
 
 -- a code that is none of those up to n
 pub others-not : (c n : ℕ) → Apart c n → (k : ℕ) → 1 ≤ k → k ≤ n → eqb c k ≡ false

@@ -1,4 +1,5 @@
-// The seventeen codes of an order, and the tables of their fields (document 01, "Plans").
+// The seventeen codes of an order, and the tables of their fields (document 01, "Plans"). A code is a number and no enum: a stored plan may hold
+// any byte in its place, and `is_known`, `count_of`, `width_of` and `length_of` answer for each.
 ghost use Rattle.std.specs.Prelude.{◌≡◌};
 ghost use Rattle.orders.specs.Codes.{known, place_of, digit_at, count_of, width_of, length_of};
 
@@ -36,12 +37,14 @@ pub const HOUSEKEEPING: u8 = 16;
 
 pub const WAIT: u8 = 17;
 
-// What each code has: an octal digit for each code, that of code 0 (none) last. The number of its fields, and the bytes of each.
+// What each code has: an octal digit for each code, that of code 0 (none) last. The number of its fields, and the bytes of each. Two numbers and no
+// table of rows, since a table would be laid on the stack at each call.
 const COUNTS: u64 = 0o1_0_0_4_1_2_2_2_2_2_1_4_1_2_2_1_1_0;
 
 const WIDTHS: u64 = 0o2_1_1_1_1_2_1_1_1_1_1_2_1_2_2_2_2_1;
 
 // Codes are 1-17.
+#[tactic(auto, unfolding(crate::specs::Codes::known))]
 pub fn is_known(code: u8) -> bool
     ensures { result ≡ known code }
 {
@@ -49,6 +52,7 @@ pub fn is_known(code: u8) -> bool
 }
 
 // The row of a code in the tables.
+#[tactic(auto, unfolding(crate::specs::Codes::place_of))]
 fn place_of(code: u8) -> usize
     ensures { result ≡ place_of code }
 {
@@ -56,6 +60,7 @@ fn place_of(code: u8) -> usize
 }
 
 // The octal digit at a code's place.
+#[tactic(auto, unfolding(crate::specs::Codes::place_of))]
 fn digit(digits: u64, code: u8) -> usize
     ensures { result ≡ digit_at digits code }
 {
@@ -63,6 +68,7 @@ fn digit(digits: u64, code: u8) -> usize
 }
 
 // How many fields a code has; what is no code has none.
+#[tactic(auto, unfolding(crate::specs::Codes::count_of, crate::specs::Codes::rows, crate::specs::Codes::place_of))]
 pub fn count_of(code: u8) -> usize
     ensures { result ≡ count_of code }
 {
@@ -70,6 +76,7 @@ pub fn count_of(code: u8) -> usize
 }
 
 // The bytes of each field of a code.
+#[tactic(auto, unfolding(crate::specs::Codes::width_of, crate::specs::Codes::rows, crate::specs::Codes::place_of))]
 pub fn width_of(code: u8) -> usize
     ensures { result ≡ width_of code }
 {
@@ -77,6 +84,7 @@ pub fn width_of(code: u8) -> usize
 }
 
 // What the length byte of an order counts: the code and the fields.
+#[tactic(auto, unfolding(crate::specs::Codes::length_of, crate::specs::Codes::count_of, crate::specs::Codes::width_of))]
 pub fn length_of(code: u8) -> usize
     ensures { result ≡ length_of code }
 {

@@ -8,14 +8,15 @@ ghost use Rattle.orders.specs.Encoding.{cut, words_cut, listed};
 use crate::codes;
 use crate::order::Order;
 
-// The words of an order, at most four; places past the count hold 0.
-#[derive(Clone, Copy)]
+// The words of an order, at most four; places past the count hold 0. A buffer with its count, since there is no allocator for a `Vec`.
+#[derive(Clone, Copy, Debug, PartialEq, Eq)]
 pub struct Words {
     pub count: usize,
     pub list: [u16; 4],
 }
 
-// The kinds, each by its word with data 0 (document 01, "The words").
+// The kinds, each by its word with data 0 (document 01, "The words"): constants, so that an order's words are made without the table of identifiers
+// that `encode` in `words` reads.
 const START: u16 = 0x8000;
 
 const HK: u16 = 0x4000;
@@ -75,6 +76,7 @@ const LEAST_NEGATIVE: u16 = 32768;
 
 // The sine as the head's register holds it: the sign in bit 12 above the magnitude. Sine 0 is plus; a
 // negative sine is stored as 65536 less its magnitude.
+#[tactic(auto, unfolding(crate::specs::Words::sine_register))]
 pub fn sine_register(sine: u16) -> u16
     ensures { result ≡ sine_register sine }
 {
@@ -90,7 +92,7 @@ pub fn sine_register(sine: u16) -> u16
 fn switch_bits(motor: u32) -> u32
     ensures { result ≡ switch_data motor }
 {
-    if motor == 0 { 1 } else { 0 }
+    (motor == 0) as u32
 }
 
 // The word of a kind and its data, cut to sixteen bits.
@@ -101,6 +103,7 @@ fn word(kind: u16, bits: u32) -> u16
 }
 
 // A word alone.
+#[tactic(auto, unfolding(crate::specs::Encoding::listed))]
 fn one(kind: u16, bits: u32) -> Words
     ensures { result ≡ listed (cut ((kind + bits) ∷ [])) }
 {
@@ -112,6 +115,7 @@ fn one(kind: u16, bits: u32) -> Words
 }
 
 // Two words.
+#[tactic(auto, unfolding(crate::specs::Encoding::listed))]
 fn two(kind: u16, bits: u32, kind2: u16, bits2: u32) -> Words
     ensures { result ≡ listed (cut ((kind + bits) ∷ (kind2 + bits2) ∷ [])) }
 {
@@ -125,6 +129,7 @@ fn two(kind: u16, bits: u32, kind2: u16, bits2: u32) -> Words
 
 impl Order {
     // The words of a window order.
+    #[tactic(auto, unfolding(crate::specs::Encoding::listed, crate::specs::Encoding::words_cut, crate::specs::Words::words_of, words::specs::Codec::word_of, words::specs::Kinds::rows))]
     fn window_words(self) -> Words
         requires { self.code ≡ window }
         ensures { result ≡ listed (words_cut self) }
@@ -140,6 +145,7 @@ impl Order {
     }
 
     // The words of a mirror order.
+    #[tactic(auto, unfolding(crate::specs::Encoding::listed, crate::specs::Encoding::words_cut, crate::specs::Words::words_of, words::specs::Codec::word_of, words::specs::Kinds::rows))]
     fn mirror_words(self) -> Words
         requires { self.code ≡ mirror }
         ensures { result ≡ listed (words_cut self) }
@@ -164,14 +170,14 @@ impl Order {
     }
 
     // The words of the order, each cut to sixteen bits; a wait and what is no code have none.
+    #[tactic(auto, unfolding(crate::specs::Encoding::words_cut, crate::specs::Encoding::listed, crate::specs::Words::words_of, words::specs::Codec::word_of, words::specs::Kinds::rows))]
     pub fn words(self) -> Words
         ensures { result ≡ listed (words_cut self) }
     {
-        let code = self.code;
         let a = self.a as u32;
         let b = self.b as u32;
         let switched = a + 2 * b;
-        match code {
+        match self.code {
             codes::VDETCOM => two(VDETCOM_M, a / 256, VDETCOM_L, a % 256),
             codes::VDETADJ => two(VDETADJ_M, a / 256, VDETADJ_L, a % 256),
             codes::IR_TIMES => two(IR_DELAY, a, IR_EXPO, b),

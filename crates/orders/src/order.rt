@@ -8,7 +8,7 @@ use crate::codes::{
 };
 
 // An order: its code, and its fields in the order in which they are stored; a field that the code has not is 0.
-#[derive(Clone, Copy)]
+#[derive(Clone, Copy, Debug, PartialEq, Eq)]
 pub struct Order {
     pub code: u8,
     pub a: u16,
@@ -56,6 +56,7 @@ impl Order {
     pub const MOST_STEPS: u16 = 81;
 
     // X1, Y1, X2 and Y2, each in its range, with X2 = X1 + 875.
+    #[tactic(auto, unfolding(crate::specs::Codes::fields_fit, crate::specs::Codes::related, crate::specs::Codes::within, crate::specs::Codes::rows))]
     fn window_fits(self) -> bool
         ensures { result ≡ fields_fit (recoded window self) }
     {
@@ -65,6 +66,7 @@ impl Order {
         first & (x2 & y2) & (self.c as u32 == self.a as u32 + Self::WINDOW_WIDTH)
     }
 
+    #[tactic(auto, unfolding(crate::specs::Codes::fields_fit, crate::specs::Codes::related, crate::specs::Codes::within, crate::specs::Codes::rows))]
     fn mirror_fits(self) -> bool
         ensures { result ≡ fields_fit (recoded mirror self) }
     {
@@ -72,6 +74,7 @@ impl Order {
         (self.b <= Self::MOST_COSINE) & sine
     }
 
+    #[tactic(auto, unfolding(crate::specs::Codes::fields_fit, crate::specs::Codes::related, crate::specs::Codes::within, crate::specs::Codes::rows))]
     fn cover_fits(self) -> bool
         ensures { result ≡ fields_fit (recoded cover self) }
     {
@@ -81,12 +84,11 @@ impl Order {
     }
 
     // Every field is in range.
+    #[tactic(auto, unfolding(crate::specs::Codes::fields_fit, crate::specs::Codes::related, crate::specs::Codes::within, crate::specs::Codes::rows))]
     pub fn fields_fit(self) -> bool
         ensures { result ≡ fields_fit self }
     {
-        let a = self.a;
-        let b = self.b;
-        let code = self.code;
+        let Order { code, a, b, .. } = self;
         match code {
             VDETCOM => a <= Self::MOST_VOLTAGE,
             VDETADJ => a <= Self::MOST_VOLTAGE,

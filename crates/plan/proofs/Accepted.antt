@@ -3,6 +3,7 @@
 use mathlib.Core.Path.{◌≡◌, refl, sym, subst, ◌∙◌}
 use mathlib.Core.Bool.{Bool, true, false, ◌||◌, true≢false}
 use mathlib.Core.List.{List, [], ◌∷◌}
+use Rattle.std.specs.Prelude.{Ok}
 use Prim.Native.Nat.{ℕ, zero, suc, ◌+◌, ◌<◌, ◌≤◌}
 use native.Mathlib.Decide.{ℕ_discrete, dec_lt}
 use native.Mathlib.Omega.{arith}
@@ -13,27 +14,21 @@ use Rattle.orders.specs.Codes.{known, length_of, fields_fit, fit}
 use Rattle.orders.specs.declared.order.Order.{Order}
 use Rattle.plan.specs.Stored.{Plan, orders, refused, orders_in, byte_at, pair_at, order_at, fault_at, before, header_fault, orders_from, most_orders, plan_of}
 use Rattle.plan.specs.Judged.{judged_of}
-use Rattle.plan.specs.declared.stored.Judged.TheVariants.{Accepted, Refused}
 use Rattle.plan.proofs.Judging.{from_end, from-many, from-fault, from-order}
 
 differ : {A : Type 0} → ◌≡◌ {A = ℕ} 0 1 → A
 differ z = absurd (omega arith)
 
 -- what the judge's answer says of the plan
-pub judged-accepted : (p : Plan) (n : ℕ) → judged_of p ≡ Accepted n → p ≡ orders (orders_in p)
+pub judged-accepted : (p : Plan) {n : ℕ} → Ok n ≡ judged_of p → p ≡ orders (orders_in p)
 unfolding judged_of
-judged-accepted (orders os) n e = refl
-judged-accepted (refused m q) n e = differ (cc)
+judged-accepted (orders os) e = refl
+judged-accepted (refused m q) e = cc
 
-pub judged-count : (p : Plan) (n : ℕ) → judged_of p ≡ Accepted n → length (orders_in p) ≡ n
+pub judged-count : (p : Plan) {n : ℕ} → Ok n ≡ judged_of p → length (orders_in p) ≡ n
 unfolding judged_of
-judged-count (orders os) n e = cc
-judged-count (refused m q) n e = differ (cc)
-
-pub judged-refused : (p : Plan) (n q : ℕ) → judged_of p ≡ Refused n q → p ≡ refused n q
-unfolding judged_of
-judged-refused (orders os) n q e = differ (cc)
-judged-refused (refused m r) n q e = cc
+judged-count (orders os) e = cc
+judged-count (refused m q) e = cc
 
 -- an order without fault is within the plan and fits
 pub record Sound (bs : List ℕ) (at : ℕ) : Type 0 where

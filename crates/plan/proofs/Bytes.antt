@@ -1,21 +1,19 @@
 -- How bytes are read into fields, orders and faults: one law for each way through the code.
 -- Assumes nothing.
-use mathlib.Core.Path.{◌≡◌, refl, sym, ◌∙◌}
+use mathlib.Core.Path.{◌≡◌, sym}
 use mathlib.Core.Bool.{Bool, true, false, cond, not, or-true}
 use mathlib.Core.List.{List}
 use Prim.Native.Nat.{ℕ, ◌+◌, ◌*◌, ◌<◌, ◌≤◌}
 use native.Mathlib.Decide.{ℕ_discrete}
 use native.Mathlib.Nat.{mul-le-mul, le_refl}
 use native.Mathlib.Omega.{arith}
-use borrow.Author.Tests.{eq-eqb, ne_eqb, lt-ltb, le-ltb, eqb-true}
-use lib.Dec.{T, eqb}
+use borrow.Author.Tests.{eq-eqb, ne_eqb, lt-ltb, le-ltb}
+use lib.Dec.{eqb}
 use lib.ListN.{length, get_or-eq_default}
 use Rattle.orders.specs.Codes.{count_of, width_of, known, length_of, fields_fit}
 use Rattle.orders.specs.declared.order.Order.{Order}
 use Rattle.orders.proofs.Rows.{width_some}
 use Rattle.plan.specs.Stored.{byte_at, value_at, reach, field_at, fields_at, order_at, fault_at}
-use Rattle.plan.specs.Judged.{faulty, checked_at}
-use Rattle.plan.specs.declared.stored.Checked.{Checked}
 
 -- past the end there is 0
 pub byte_past : (bs : List ℕ) (i : ℕ) → length bs ≤ i → 0 ≡ byte_at bs i
@@ -88,31 +86,3 @@ fields-room at size n code right is ends = omega arith
 pub order-fields : (bs : List ℕ) (at code : ℕ) {o : Order} → code ≡ byte_at bs (at + 1) → o ≡ fields_at bs (at + 2) code → o ≡ order_at bs at
 unfolding order_at
 order-fields bs at code is_code is = rw (is, is_code)
-
--- an order that was read, faulty or whole
-module _ (bs : List ℕ) (at : ℕ) where
-  pub checked-faulty : {n : ℕ} {r : Checked} → r ≡ faulty n → T (not (eqb n 0)) → n ≡ fault_at bs at → r ≡ checked_at bs at
-  unfolding checked_at
-  checked-faulty {n} is some fault = is ∙ rw (← fault, false_of (eqb n 0) some)
-    where
-      false_of : (z : Bool) → T (not z) → z ≡ false
-      false_of true t = absurd t
-      false_of false t = refl
-
-  pub checked-whole : {o : Order} → 0 ≡ fault_at bs at → o ≡ order_at bs at → record { fault = 0; order = o } ≡ checked_at bs at
-  unfolding checked_at
-  checked-whole none is = rw (← none, is)
-
-module _ (bs : List ℕ) (at : ℕ) {r : Checked} (is : r ≡ checked_at bs at) where
-  pub checked-fault : r.fault ≡ fault_at bs at
-  unfolding checked_at faulty
-  checked-fault = rw is (go (eqb (fault_at bs at) 0) refl)
-    where
-      go : (z : Bool) → eqb (fault_at bs at) 0 ≡ z
-          → (cond (eqb (fault_at bs at) 0) (record { fault = 0; order = order_at bs at }) (faulty (fault_at bs at))).fault ≡ fault_at bs at
-      go true e = rw e (sym (eqb-true (fault_at bs at) 0 e))
-      go false e = rw e
-
-  pub checked-order : r.fault ≡ 0 → r.order ≡ order_at bs at
-  unfolding checked_at
-  checked-order none = rw (is, eq-eqb (fault_at bs at) 0 (sym checked-fault ∙ none))

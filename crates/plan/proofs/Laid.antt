@@ -1,13 +1,15 @@
 -- Values laid into a list one after another, from a place on.
 -- Assumes nothing.
-use mathlib.Core.Path.{◌≡◌, refl, sym, ◌∙◌}
-use mathlib.Core.List.{List, [], ◌∷◌, ◌++◌}
-use Prim.Native.Nat.{ℕ, suc, ◌+◌, ◌<◌, ◌≤◌}
+use mathlib.Core.Path.{◌≡◌, refl, sym, ap, ◌∙◌}
+use mathlib.Core.List.{List, [], ◌∷◌, ◌++◌, append_assoc}
+use Prim.Native.Nat.{ℕ, suc, min, ◌+◌, ◌-◌, ◌<◌, ◌≤◌}
+use native.Mathlib.Decide.{dec_lt}
 use native.Mathlib.Nat.{add-zero, add-suc, suc-add, zero-add}
-use native.Mathlib.Numerals.{add-one}
 use native.Mathlib.Omega.{arith}
-use lib.ListN.{length, get_or, set, drop, length-set, drop_of_length-le}
-use lib.Seq.{sets, set_out, sets-eq, drop-cons}
+use borrow.Rule.Slice.PartMut.{put_mid}
+use Rattle.std.proofs.lemmas.List.{take-append-drop, length-take-le}
+use lib.ListN.{length, set, take, drop, length-set, drop_of_length-le}
+use lib.Seq.{sets, set_out, sets-eq, length-sets, drop-drop}
 
 -- past the end nothing is written
 pub sets-past : (vs l : List ℕ) (i : ℕ) → length l ≤ i → l ≡ sets l i vs
@@ -23,10 +25,25 @@ sets-append (x ∷ xs) ys l i = rw (add-suc i (length xs), ← suc-add i (length
 pub sets-front : (vs l : List ℕ) → length vs ≤ length l → sets l 0 vs ≡ vs ++ drop (length vs) l
 sets-front vs l h = sets-eq vs l 0 (omega arith) ∙ rw (zero-add (length vs))
 
--- i of the values have been laid
-module _ (whole l vs : List ℕ) (from i : ℕ) (left : whole ≡ sets l (from + i) (drop i vs)) where
-  pub laid_next : i < length vs → whole ≡ sets (set l (from + i) (get_or vs i 0)) (from + (i + 1)) (drop (i + 1) vs)
-  laid_next h = left ∙ rw (add-one i, drop-cons vs i 0 h, add-suc from i)
+-- written as one piece: all the values, and the first n of them where there is room for no more
+pub put-sets : {m : ℕ} (vs l : List ℕ) (i : ℕ) → i + length vs ≤ length l → m ≡ length vs → put_mid i m l vs ≡ sets l i vs
+put-sets vs l i room same =
+    rw same (sym (sets-eq vs l i room ∙ rw (append_assoc (take i l) vs (drop (i + length vs) l), drop-drop (length vs) i l)))
 
-  pub laid-last : length vs ≤ i → l ≡ whole
-  laid-last h = sym (left ∙ rw (drop_of_length-le vs h))
+pub sets-piece : {m n : ℕ} {ys : List ℕ} (vs l : List ℕ) (i : ℕ) → i ≤ length l → n ≡ min (length vs) (length l - i) → m ≡ n → ys ≡ take n vs
+    → put_mid i m l ys ≡ sets l i vs
+sets-piece {m} {n} {ys} vs l i room most same is =
+    rw is (put-sets (take n vs) l i (rw long (omega arith)) (same ∙ sym long) ∙ left (dec_lt n (length vs)) ∙ sym whole)
+  where
+    some : n ≤ length vs
+    some = omega arith
+
+    long : length (take n vs) ≡ n
+    long = length-take-le n vs some
+
+    whole : sets l i vs ≡ sets (sets l i (take n vs)) (i + n) (drop n vs)
+    whole = ap (sets l i) (sym (take-append-drop n vs)) ∙ sets-append (take n vs) (drop n vs) l i ∙ rw long
+
+    left : Dec (n < length vs) → sets l i (take n vs) ≡ sets (sets l i (take n vs)) (i + n) (drop n vs)
+    left (yes h) = sets-past (drop n vs) (sets l i (take n vs)) (i + n) (rw (length-sets l i (take n vs)) (omega arith))
+    left (no h) = rw (drop_of_length-le vs {i = n} (omega arith))

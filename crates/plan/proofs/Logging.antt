@@ -3,6 +3,7 @@
 use mathlib.Core.Path.{◌≡◌, refl, sym, ap, ◌∙◌}
 use mathlib.Core.Bool.{Bool, true, false}
 use mathlib.Core.List.{List, [], ◌∷◌}
+use Rattle.std.specs.Prelude.{Ok, Err}
 use Prim.Native.Nat.{ℕ, ◌+◌, ◌*◌, ◌≤◌, ◌<◌}
 use native.Mathlib.Omega.{arith}
 use borrow.Author.Tests.{eq-eqb, ne_eqb}
@@ -12,17 +13,14 @@ use Rattle.head.specs.declared.state.Settings.{Settings}
 use Rattle.orders.specs.Codes as code
 use Rattle.orders.specs.Codes.{is, fit}
 use Rattle.orders.specs.declared.order.Order.{Order}
-use Rattle.plan.specs.Stored.{Plan, orders, refused, byte_at, order_at, plan_of, plan_number, plan_place, orders_in}
+use Rattle.plan.specs.Stored.{Plan, orders, refused, byte_at, order_at, plan_of, orders_in}
 use Rattle.plan.specs.Judged.{judged_of, checked_at}
 use Rattle.plan.specs.Reading.{exposure, request, cover_move, settings_by, entries_by, settings_read, log_read}
 use Rattle.plan.specs.Rows.{rows_of, end_row, record_of}
-use Rattle.plan.specs.Read.{read_of, read_number, read_place, read_record, at_front}
-use Rattle.plan.specs.declared.stored.Checked.{Checked}
-use Rattle.plan.specs.declared.stored.Judged.{Judged}
-use Rattle.plan.specs.declared.reading.Read.{Read}
-use Rattle.plan.specs.declared.reading.Read.TheVariants.{Accepted, Refused}
-use Rattle.plan.proofs.Accepted.{judged-accepted, judged-refused, accepted-few}
-use Rattle.plan.proofs.Bytes.{checked-fault, checked-order}
+use Rattle.plan.specs.Read.{read_of, read_record, at_front}
+use Rattle.plan.specs.declared.stored.Refusal.{Refusal}
+use Rattle.plan.proofs.Accepted.{judged-accepted, accepted-few}
+use Rattle.plan.proofs.Faults.{unless-none, ok-is}
 use Rattle.plan.proofs.Recorded.{record-long, record-next, record-last, record-front}
 use Rattle.plan.proofs.Walking.{Walking, walking-first, walking-order, walking-whole, walking-sound, walking-next}
 
@@ -87,17 +85,14 @@ module _ {rows₀ bs : List ℕ} {os : List Order} {count : ℕ} {start : Settin
       some : k < length os
       some = let long = h.long in omega arith
 
-      pub logging-room : acts < 64
-      logging-room = let few = h.few in let most = h.walk.few in omega (arith, some)
+      pub logging-whole : Ok (order_at bs at) ≡ checked_at bs at
+      logging-whole = unless-none _ _ (sym (walking-whole bs os at k h.walk some)) refl
 
-      pub logging-order : {r : Checked} → r ≡ checked_at bs at → r.order ≡ order_at bs at
-      logging-order is = checked-order bs at is (checked-fault bs at is ∙ walking-whole bs os at k h.walk some)
+      pub logging-order : {o : Order} → Ok o ≡ checked_at bs at → o ≡ order_at bs at
+      logging-order is = ok-is _ _ is
 
       pub logging-fits : fit (order_at bs at) ≡ true
       logging-fits = (walking-sound bs os at k h.walk some).fits
-
-      pub logging-ends : at + 1 + byte_at bs at ≤ length bs
-      logging-ends = (walking-sound bs os at k h.walk some).ends
 
       pub logging-next : {rows' : List ℕ} {acts' : ℕ} {settings' : Settings}
           → acts' ≡ acts + length (entries_by settings (order_at bs at))
@@ -145,35 +140,35 @@ module _ {rows₀ bs : List ℕ} {os : List Order} {count : ℕ} {start : Settin
 log-room : (r : Settings) (bs : List ℕ) (os : List Order) → plan_of bs ≡ orders os → 21 * length (log_read r os) + 21 ≤ 1365
 log-room r bs os e = omega (arith, log-few r os, accepted-few bs os e)
 
-pub read-room : (r : Settings) (bs : List ℕ) → length (read_record r (plan_of bs)) ≤ 1365
-unfolding read_record
-read-room r bs = go (plan_of bs) refl
-  where
-    go : (p : Plan) → plan_of bs ≡ p → length (read_record r p) ≤ 1365
-    go (orders os) e = omega (arith, record-long (log_read r os) (settings_read r os), log-room r bs os e)
-    go (refused n q) e = omega arith
-
 -- the ways through `read_plan`
-abbrev Answers : Settings → List ℕ → List ℕ → Read → List ℕ → Type 0
-Answers r bs rows answer rows' =
-    (answer ≡ read_of r (plan_of bs))
-    × ((read_number answer ≡ plan_number (plan_of bs))
-    × ((read_place answer ≡ plan_place (plan_of bs))
-    × (rows' ≡ at_front (read_record r (plan_of bs)) rows)))
+module _ (r : Settings) (bs : List ℕ) where
+  module _ {n : ℕ} (is : Ok n ≡ judged_of (plan_of bs)) where
+    pub read-value : {acts : ℕ} → acts ≡ length (log_read r (orders_in (plan_of bs))) → Ok acts ≡ read_of r (plan_of bs)
+    unfolding read_of
+    read-value count = ap Ok count ∙ ap (read_of r) (sym (judged-accepted (plan_of bs) is))
 
-module _ (r : Settings) (bs rows : List ℕ) where
-  pub way-read : {n acts : ℕ} {rows' : List ℕ} → judged_of (plan_of bs) ≡ Judged.Accepted n → length rows ≡ 1365
-      → acts ≡ length (log_read r (orders_in (plan_of bs))) → rows' ≡ sets rows 0 (read_from r (orders_in (plan_of bs)))
-      → Answers r bs rows (Accepted acts) rows'
-  unfolding read_of read_record
-  way-read {n} is room count laid =
-      let os = orders_in (plan_of bs) in
-      let read = judged-accepted (plan_of bs) n is in
-      let most : 21 * length (log_read r os) + 21 ≤ length rows = omega (arith, log-room r bs os read) in
-      let answer = ap Accepted count ∙ ap (read_of r) (sym read) in
-      let front = laid ∙ record-front (log_read r os) (settings_read r os) rows most ∙ ap (λ (p : Plan). at_front (read_record r p) rows) (sym read) in
-      (answer, (ap plan_number (sym read), (ap plan_place (sym read), front)))
+    pub read-rows : (rows : List ℕ) {rows' : List ℕ} → length rows ≡ 1365 → rows' ≡ sets rows 0 (read_from r (orders_in (plan_of bs)))
+        → rows' ≡ at_front (read_record r (plan_of bs)) rows
+    unfolding read_record
+    read-rows rows long laid =
+        let os = orders_in (plan_of bs) in
+        let read = judged-accepted (plan_of bs) is in
+        let most : 21 * length (log_read r os) + 21 ≤ length rows = omega (arith, log-room r bs os read) in
+        laid ∙ record-front (log_read r os) (settings_read r os) rows most ∙ ap (λ (p : Plan). at_front (read_record r p) rows) (sym read)
 
-  pub way-refused : {n p : ℕ} → judged_of (plan_of bs) ≡ Judged.Refused n p → Answers r bs rows (Refused n p) rows
-  unfolding read_of read_record at_front
-  way-refused {n} {p} is = rw (judged-refused (plan_of bs) n p is) (refl, (refl, (refl, refl)))
+  module _ {f : Refusal} (is : Err f ≡ judged_of (plan_of bs)) where
+    pub refused-value : Err f ≡ read_of r (plan_of bs)
+    unfolding judged_of read_of
+    refused-value = go (plan_of bs) is
+      where
+        go : (p : Plan) → Err f ≡ judged_of p → Err f ≡ read_of r p
+        go (orders os) e = cc
+        go (refused n q) e = e
+
+    pub refused-rows : (rows : List ℕ) → rows ≡ at_front (read_record r (plan_of bs)) rows
+    unfolding judged_of read_record at_front
+    refused-rows rows = go (plan_of bs) is
+      where
+        go : (p : Plan) → Err f ≡ judged_of p → rows ≡ at_front (read_record r p) rows
+        go (orders os) e = cc
+        go (refused n q) e = refl

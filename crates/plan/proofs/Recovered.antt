@@ -8,6 +8,7 @@ use native.Mathlib.Omega.{arith}
 use lib.Dec.{eqb}
 use lib.ListN.{length, get_or, drop}
 use lib.Seq.{drop_at}
+use Rattle.head.specs.Row.{settings_of}
 use Rattle.head.specs.declared.state.Settings.{Settings}
 use Rattle.plan.specs.Reading.{Entry, exposure, request, cover_move}
 use Rattle.plan.specs.Rows.{settings_row, entry_row, rows_of, end_row, record_of}
@@ -15,29 +16,7 @@ use Rattle.plan.proofs.Recorded.{row-long, rows_long, record-long}
 
 -- the settings of a row after its first number
 abbrev settings_in : List ℕ → Settings
-settings_in l =
-    record {
-      detector = get_or l 1 0;
-      mode = get_or l 2 0;
-      vdetcom = get_or l 3 0;
-      vdetadj = get_or l 4 0;
-      irdelay = get_or l 5 0;
-      irexpo = get_or l 6 0;
-      ccddelay = get_or l 7 0;
-      ccdexpo = get_or l 8 0;
-      x1 = get_or l 9 0;
-      y1 = get_or l 10 0;
-      x2 = get_or l 11 0;
-      y2 = get_or l 12 0;
-      ccdlamp = get_or l 13 0;
-      irlamp = get_or l 14 0;
-      shutter = get_or l 15 0;
-      annealing = get_or l 16 0;
-      sine = get_or l 17 0;
-      cosine = get_or l 18 0;
-      switch = get_or l 19 0;
-      direction = get_or l 20 0;
-    }
+settings_in l = settings_of (drop 1 l)
 
 abbrev entry_in : List ℕ → Entry
 entry_in l =

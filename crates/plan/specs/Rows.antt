@@ -2,33 +2,13 @@
 -- record is at most 65 rows, 1365 numbers.
 -- Assumes nothing.
 use Rattle.std.specs.Prelude.{ℕ, List, [], ◌∷◌, ◌++◌, replicate}
+use Rattle.head.specs.Row.{register_numbers}
 use Rattle.head.specs.declared.state.Settings.{Settings}
 use Rattle.plan.specs.Reading.{Entry, exposure, request, cover_move}
 
 -- The twenty registers in the order of document 01's power-on list.
 unfoldable pub settings_row : Settings → List ℕ
-settings_row r =
-    r.detector
-    ∷ r.mode
-    ∷ r.vdetcom
-    ∷ r.vdetadj
-    ∷ r.irdelay
-    ∷ r.irexpo
-    ∷ r.ccddelay
-    ∷ r.ccdexpo
-    ∷ r.x1
-    ∷ r.y1
-    ∷ r.x2
-    ∷ r.y2
-    ∷ r.ccdlamp
-    ∷ r.irlamp
-    ∷ r.shutter
-    ∷ r.annealing
-    ∷ r.sine
-    ∷ r.cosine
-    ∷ r.switch
-    ∷ r.direction
-    ∷ []
+settings_row r = register_numbers r
 
 -- 1 an exposure with its settings, 2 a housekeeping request, 3 a cover move with its direction, wave, sensors and steps; 0 in the
 -- places that an act leaves.

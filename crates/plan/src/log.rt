@@ -9,7 +9,7 @@ use head::state::Settings;
 // The numbers of a row.
 pub const ROW: usize = 21;
 
-// What a row begins with: the settings at the end, or the act.
+// What a row begins with: the settings at the end, or the act. A number, since a row is one of numbers.
 pub const END: u16 = 0;
 
 pub const EXPOSURE: u16 = 1;
@@ -19,34 +19,16 @@ pub const REQUEST: u16 = 2;
 pub const COVER_MOVE: u16 = 3;
 
 // The registers after a first number.
+#[tactic(auto, unfolding(crate::specs::Rows::settings_row))]
 pub fn settings_row(first: u16, settings: Settings) -> [u16; 21]
     ensures { result ≡ first ∷ settings_row settings }
 {
-    [
-        first,
-        settings.detector,
-        settings.mode,
-        settings.vdetcom,
-        settings.vdetadj,
-        settings.irdelay,
-        settings.irexpo,
-        settings.ccddelay,
-        settings.ccdexpo,
-        settings.x1,
-        settings.y1,
-        settings.x2,
-        settings.y2,
-        settings.ccdlamp,
-        settings.irlamp,
-        settings.shutter,
-        settings.annealing,
-        settings.sine,
-        settings.cosine,
-        settings.switch,
-        settings.direction,
-    ]
+    let mut row = [first; ROW];
+    row[1..].copy_from_slice(&settings.numbers());
+    row
 }
 
+#[tactic(auto, unfolding(crate::specs::Rows::entry_row))]
 pub fn request_row() -> [u16; 21]
     ensures { result ≡ entry_row request }
 {
@@ -55,6 +37,7 @@ pub fn request_row() -> [u16; 21]
     row
 }
 
+#[tactic(auto, unfolding(crate::specs::Rows::entry_row))]
 pub fn cover_row(direction: u16, wave: u16, sensors: u16, steps: u16) -> [u16; 21]
     ensures { result ≡ entry_row (cover_move direction wave sensors steps) }
 {
@@ -75,12 +58,6 @@ pub fn lay(rows: &mut [u16], k: usize, row: [u16; 21])
         return;
     }
     let from = ROW * k;
-    let mut i: usize = 0;
-    while i < ROW {
-        if rows.len() <= from + i {
-            return;
-        }
-        rows[from + i] = row[i];
-        i = i + 1;
-    }
+    let count = ROW.min(rows.len() - from);
+    rows[from..from + count].copy_from_slice(&row[..count]);
 }

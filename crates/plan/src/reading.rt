@@ -8,41 +8,10 @@ ghost use Rattle.plan.specs.Read.{read_of, read_number, read_place, read_record,
 
 use crate::log::{END, EXPOSURE, cover_row, lay, request_row, settings_row};
 use crate::settings::settings_by;
-use crate::stored::{HEADER, Judged, NO_FAULT, byte_at, checked_at, judge};
+use crate::stored::{HEADER, Refusal, byte_at, checked_at, judge};
 use head::state::Settings;
 use orders::codes::{COVER, EXPOSE, HOUSEKEEPING};
 use orders::order::Order;
-
-// What reading a plan answers.
-#[derive(Clone, Copy)]
-pub enum Read {
-    // The number of acts.
-    Accepted { acts: usize },
-    // The number of document 01's refusal table, and the byte place.
-    Refused { number: u8, place: usize },
-}
-
-impl Read {
-    // The refusal's number, 0 for none.
-    pub fn number(self) -> u8
-        ensures { result ≡ read_number self }
-    {
-        match self {
-            Read::Accepted { acts: _ } => NO_FAULT,
-            Read::Refused { number, place: _ } => number,
-        }
-    }
-
-    // The refusal's byte place, 0 for none.
-    pub fn place(self) -> usize
-        ensures { result ≡ read_place self }
-    {
-        match self {
-            Read::Accepted { acts: _ } => 0,
-            Read::Refused { number: _, place } => place,
-        }
-    }
-}
 
 // The act of an order, if it has one, as the next row; answers the number of acts then.
 fn log_order(rows: &mut [u16], acts: usize, settings: Settings, order: Order) -> usize
@@ -76,31 +45,23 @@ fn read_orders(rows: &mut [u16], plan: &[u8], count: usize, start: Settings) -> 
     let mut settings = start;
     let mut at: usize = HEADER;
     let mut acts: usize = 0;
-    let mut k: usize = 0;
-    while k < count {
-        let checked = checked_at(plan, at);
-        let order = checked.order;
+    for _k in 0..count {
+        let order = checked_at(plan, at).unwrap();
         acts = log_order(rows, acts, settings, order);
         settings = settings_by(settings, order);
         at = at + 1 + byte_at(plan, at) as usize;
-        k = k + 1;
     }
     lay(rows, acts, settings_row(END, settings));
     acts
 }
 
-// Reads a plan from given settings into the first rows; a refusal writes nothing.
-pub fn read_plan(settings: Settings, plan: &[u8], rows: &mut [u16; 1365]) -> Read
+// Reads a plan from given settings into the first rows, and answers the number of acts; a refusal writes nothing.
+pub fn read_plan(settings: Settings, plan: &[u8], rows: &mut [u16; 1365]) -> Result<usize, Refusal>
     ensures value { result ≡ read_of settings (plan_of plan.now) }
     ensures result_value { read_number result ≡ plan_number (plan_of plan.now) }
     ensures result_value_2 { read_place result ≡ plan_place (plan_of plan.now) }
     ensures rows_after { rows.new ≡ at_front (read_record settings (plan_of plan.now)) rows.old }
 {
-    let judged = judge(plan);
-    match judged {
-        Judged::Accepted { count } => Read::Accepted {
-            acts: read_orders(rows, plan, count, settings),
-        },
-        Judged::Refused { number, place } => Read::Refused { number, place },
-    }
+    let count = judge(plan)?;
+    Ok(read_orders(rows, plan, count, settings))
 }

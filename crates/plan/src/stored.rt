@@ -1,8 +1,8 @@
 // Stored plans, read from bytes (document 01, "Plans").
 ghost use Rattle.std.specs.Prelude.{◌≡◌, ◌+◌, ◌*◌, ◌≤◌, ◌<◌, ◌^◌, length};
 ghost use Rattle.orders.specs.Codes.{count_of, width_of};
-ghost use Rattle.plan.specs.Stored.{byte_at, pair_at, reach, value_at, fields_at, header_fault, orders_from, most_orders, plan_of, plan_number, plan_place};
-ghost use Rattle.plan.specs.Judged.{faulty, checked_at, judged_of, judged_number, judged_place};
+ghost use Rattle.plan.specs.Stored.{byte_at, pair_at, reach, value_at, fields_at, fault_at, header_fault, orders_from, most_orders, plan_of, plan_number, plan_place};
+ghost use Rattle.plan.specs.Judged.{fault_number, refusal_number, checked_number, checked_at, checked_header, judged_of, judged_number, judged_place};
 
 use orders::codes::{count_of, is_known, length_of, width_of};
 use orders::order::Order;
@@ -15,53 +15,50 @@ pub const HEADER: usize = 3;
 
 pub const MOST_ORDERS: usize = 64;
 
-// The numbers of document 01's refusal table, and 0 for none of them.
-pub const NO_FAULT: u8 = 0;
-
-pub const TOO_SHORT: u8 = 2;
-
-pub const OTHER_VERSION: u8 = 3;
-
-pub const PLAN_LENGTH: u8 = 4;
-
-pub const ORDER_LENGTH: u8 = 5;
-
-pub const UNKNOWN_CODE: u8 = 6;
-
-pub const CODE_LENGTH: u8 = 7;
-
-pub const FIELD_RANGE: u8 = 8;
-
-pub const TOO_MANY: u8 = 9;
-
-// What judging a plan answers.
-#[derive(Clone, Copy)]
-pub enum Judged {
-    // The number of orders.
-    Accepted { count: usize },
-    // The number of document 01's refusal table, and the byte place.
-    Refused { number: u8, place: usize },
+// What is wrong with a plan, in the order of document 01's refusal table.
+#[derive(Clone, Copy, Debug, PartialEq, Eq)]
+pub enum Fault {
+    TooShort,
+    OtherVersion,
+    PlanLength,
+    OrderLength,
+    UnknownCode,
+    CodeLength,
+    FieldRange,
+    TooMany,
 }
 
-impl Judged {
-    // The refusal's number, 0 for none.
+impl Fault {
+    // Its number in that table.
     pub fn number(self) -> u8
-        ensures { result ≡ judged_number self }
+        ensures { result ≡ fault_number self }
     {
         match self {
-            Judged::Accepted { count: _ } => NO_FAULT,
-            Judged::Refused { number, place: _ } => number,
+            Fault::TooShort => 2,
+            Fault::OtherVersion => 3,
+            Fault::PlanLength => 4,
+            Fault::OrderLength => 5,
+            Fault::UnknownCode => 6,
+            Fault::CodeLength => 7,
+            Fault::FieldRange => 8,
+            Fault::TooMany => 9,
         }
     }
+}
 
-    // The refusal's byte place, 0 for none.
-    pub fn place(self) -> usize
-        ensures { result ≡ judged_place self }
+// Why a plan is refused, and the byte place.
+#[derive(Clone, Copy, Debug, PartialEq, Eq)]
+pub struct Refusal {
+    pub fault: Fault,
+    pub place: usize,
+}
+
+impl Refusal {
+    // The fault's number.
+    pub fn number(self) -> u8
+        ensures { result ≡ refusal_number self }
     {
-        match self {
-            Judged::Accepted { count: _ } => 0,
-            Judged::Refused { number: _, place } => place,
-        }
+        self.fault.number()
     }
 }
 
@@ -69,7 +66,7 @@ impl Judged {
 pub fn byte_at(plan: &[u8], i: usize) -> u8
     ensures { result ≡ byte_at plan.now i }
 {
-    if i < plan.len() { plan[i] } else { 0 }
+    plan.get(i).copied().unwrap_or(0)
 }
 
 // Two bytes from a place on, the first the higher.
@@ -77,31 +74,7 @@ fn pair_at(plan: &[u8], i: usize) -> u16
     requires { i + 1 < 2 ^ 64 }
     ensures { result ≡ pair_at plan.now i }
 {
-    let high = byte_at(plan, i) as u16;
-    let low = byte_at(plan, i + 1) as u16;
-    high * 256 + low
-}
-
-// An order that was read: what is wrong with it, a number of document 01's refusal table or 0 for nothing; and where nothing is, itself.
-#[derive(Clone, Copy)]
-pub struct Checked {
-    pub fault: u8,
-    pub order: Order,
-}
-
-fn faulty(fault: u8) -> Checked
-    ensures { result ≡ faulty fault }
-{
-    Checked {
-        fault,
-        order: Order {
-            code: 0,
-            a: 0,
-            b: 0,
-            c: 0,
-            d: 0,
-        },
-    }
+    u16::from_be_bytes([byte_at(plan, i), byte_at(plan, i + 1)])
 }
 
 // A byte that is there.
@@ -118,9 +91,8 @@ fn value_at(plan: &[u8], at: usize, wide: bool, i: usize) -> u16
     ensures { result ≡ value_at plan.now at wide i }
 {
     if wide {
-        let high = byte(plan, at + 2 * i) as u16;
-        let low = byte(plan, at + 2 * i + 1) as u16;
-        return high * 256 + low;
+        let place = at + 2 * i;
+        return u16::from_be_bytes([byte(plan, place), byte(plan, place + 1)]);
     }
     byte(plan, at + i) as u16
 }
@@ -159,89 +131,88 @@ fn fields_at(plan: &[u8], at: usize, code: u8) -> Order
 }
 
 // The order at a place, read and judged.
-pub fn checked_at(plan: &[u8], at: usize) -> Checked
-    ensures { result ≡ checked_at plan.now at }
+pub fn checked_at(plan: &[u8], at: usize) -> Result<Order, Fault>
+    ensures value { result ≡ checked_at plan.now at }
+    ensures number { checked_number result ≡ fault_at plan.now at }
 {
     if plan.len() <= at {
-        return faulty(ORDER_LENGTH);
+        return Err(Fault::OrderLength);
     }
     let size = byte(plan, at) as usize;
     if size == 0 {
-        return faulty(ORDER_LENGTH);
+        return Err(Fault::OrderLength);
     }
     if plan.len() < at + 1 + size {
-        return faulty(ORDER_LENGTH);
+        return Err(Fault::OrderLength);
     }
     let code = byte(plan, at + 1);
     let known = is_known(code);
     let length = length_of(code);
     if !known {
-        return faulty(UNKNOWN_CODE);
+        return Err(Fault::UnknownCode);
     }
     if size != length {
-        return faulty(CODE_LENGTH);
+        return Err(Fault::CodeLength);
     }
     let order = fields_at(plan, at + 2, code);
     if order.fields_fit() {
-        Checked {
-            fault: NO_FAULT,
-            order,
-        }
+        Ok(order)
     } else {
-        faulty(FIELD_RANGE)
+        Err(Fault::FieldRange)
     }
 }
 
 // The orders, from the first on.
-fn judge_orders(plan: &[u8]) -> Judged
+fn judge_orders(plan: &[u8]) -> Result<usize, Refusal>
     ensures { result ≡ judged_of (orders_from most_orders plan.now 3) }
 {
     let mut at: usize = HEADER;
     let mut count: usize = 0;
+    // The place advances by each order's own length, so it is no index of a `for`.
     while at < plan.len() {
-        let number = checked_at(plan, at).fault;
+        let checked = checked_at(plan, at);
         // Where the bytes that the length byte counts begin.
         let counted = at + 1;
         if MOST_ORDERS <= count {
-            return Judged::Refused {
-                number: TOO_MANY,
+            return Err(Refusal {
+                fault: Fault::TooMany,
                 place: at,
-            };
+            });
         }
-        if number != NO_FAULT {
-            return Judged::Refused { number, place: at };
+        if let Err(fault) = checked {
+            return Err(Refusal { fault, place: at });
         }
         at = counted + byte_at(plan, at) as usize;
-        count = count + 1;
+        count += 1;
     }
-    Judged::Accepted { count }
+    Ok(count)
 }
 
-// What is wrong with a plan before its orders: a number of document 01's refusal table, 0 for nothing.
-pub fn header_fault(plan: &[u8]) -> u8
-    ensures { result ≡ header_fault plan.now }
+// What is wrong with a plan before its orders.
+pub fn header_fault(plan: &[u8]) -> Result<(), Fault>
+    ensures value { result ≡ checked_header plan.now }
+    ensures number { checked_number result ≡ header_fault plan.now }
 {
     if plan.len() < HEADER {
-        return TOO_SHORT;
+        return Err(Fault::TooShort);
     }
     if plan[0] != VERSION {
-        return OTHER_VERSION;
+        return Err(Fault::OtherVersion);
     }
     if plan.len() != HEADER + pair_at(plan, 1) as usize {
-        return PLAN_LENGTH;
+        return Err(Fault::PlanLength);
     }
-    NO_FAULT
+    Ok(())
 }
 
-// Whether a plan is accepted.
-pub fn judge(plan: &[u8]) -> Judged
+// Whether a plan is accepted: the number of its orders, or why not.
+pub fn judge(plan: &[u8]) -> Result<usize, Refusal>
     ensures value { result ≡ judged_of (plan_of plan.now) }
     ensures result_value { judged_number result ≡ plan_number (plan_of plan.now) }
     ensures result_value_2 { judged_place result ≡ plan_place (plan_of plan.now) }
 {
-    let number = header_fault(plan);
-    if number != NO_FAULT {
-        return Judged::Refused { number, place: 0 };
+    if let Err(fault) = header_fault(plan) {
+        return Err(Refusal { fault, place: 0 });
     }
     judge_orders(plan)
 }

@@ -3,6 +3,7 @@
 use mathlib.Core.Path.{◌≡◌, refl, sym, ap, ◌∙◌}
 use mathlib.Core.Bool.{Bool, true, false, cond, ◌&&◌}
 use mathlib.Core.List.{List, [], ◌∷◌, map}
+use Rattle.std.specs.Prelude.{Result, Ok, Err}
 use Prim.Native.Nat.{ℕ, ◌≤◌}
 use native.Mathlib.Omega.{arith}
 use lib.Dec.{leb}
@@ -16,7 +17,8 @@ use Rattle.plan.proofs.Accepted.{accepted-fit, accepted-few}
 use Rattle.plan.proofs.Logging.{log-few}
 use Rattle.schedule.specs.Schedule.{Timed, Schedule, schedule_from, Rising}
 use Rattle.schedule.specs.Translate.{fit, most_words, schedule_of, answer_of_plan, translate_of, filled, tick_list, word_list}
-use Rattle.schedule.specs.declared.Translated.TheVariants.{Done, Short}
+use Rattle.schedule.specs.declared.Translation.{Translation}
+use Rattle.schedule.specs.declared.TranslateError.{TranslateError}
 use Rattle.schedule.proofs.Accepted.{accepted-done}
 use Rattle.schedule.proofs.Plans.{plan-rising, plan-count, plan-end}
 use Rattle.run.specs.Run.{moments_of, log_of}
@@ -30,20 +32,24 @@ unfolding paired
 paired-back [] = refl
 paired-back (x ∷ xs) = ap (λ (l : List Timed). x ∷ l) (paired-back xs)
 
--- what the answer Done says
+-- what the answer says, n words and the end e
 pub record Answered (p : Plan) (sch : Schedule) (n e : ℕ) : Type 0 where
   pub accepted : p ≡ orders (orders_in p)
   pub count : n ≡ length sch.list
   pub end : e ≡ sch.end
 
-answered : (p : Plan) (sch : Schedule) (a b n e : ℕ) → Done n e ≡ answer_of_plan p sch a b → Answered p sch n e
+answered : (p : Plan) (sch : Schedule) (a b n e : ℕ) → Ok (record { count = n; end = e }) ≡ answer_of_plan p sch a b → Answered p sch n e
 unfolding answer_of_plan
-answered (refused m q) sch a b n e h = let z : ◌≡◌ {A = ℕ} 0 1 = cc in absurd (omega arith)
+answered (refused m q) sch a b n e h = cc
 answered (orders os) sch a b n e h = go (leb (length sch.list) a && leb (length sch.list) b) h
   where
-    go : (x : Bool) → Done n e ≡ cond x (Done (length sch.list) sch.end) (Short (length sch.list)) → Answered (orders os) sch n e
-    go true k = record { accepted = refl; count = cc; end = cc }
-    go false k = let z : ◌≡◌ {A = ℕ} 0 1 = cc in absurd (omega arith)
+    go : (x : Bool)
+        → ◌≡◌ {A = Result Translation TranslateError} (Ok (record { count = n; end = e })) (cond x (Ok (record { count = length sch.list; end = sch.end })) (Err (TranslateError.Short (length sch.list))))
+        → Answered (orders os) sch n e
+    go true k =
+        let same : ◌≡◌ {A = Translation} (record { count = n; end = e }) (record { count = length sch.list; end = sch.end }) = cc in
+        record { accepted = refl; count = ap (λ (t : Translation). t.count) same; end = ap (λ (t : Translation). t.end) same }
+    go false k = cc
 
 -- the schedule of an accepted plan
 module _ (s : Head) (bs : List ℕ) (os : List Order) (h : fit s ≡ true) (e : plan_of bs ≡ orders os) where
@@ -63,15 +69,15 @@ module _ (s : Head) (bs : List ℕ) (os : List Order) (h : fit s ≡ true) (e : 
         run = rw is (run-whole s os h all);
       }
 
--- `translate` answered Done n e; W and T are the buffers as they were lent, W' and T' as they came back
+-- `translate` answered n words and the end e; W and T are the buffers as they were lent, W' and T' as they came back
 module _ (s : Head) (bs W T W' T' : List ℕ) (n e : ℕ)
-    (answer : Done n e ≡ translate_of s bs (length W) (length T))
-    (words : W' ≡ filled (Done n e) (word_list (schedule_of s (plan_of bs))) W)
-    (ticks : T' ≡ filled (Done n e) (tick_list (schedule_of s (plan_of bs))) T) where
+    (answer : Ok (record { count = n; end = e }) ≡ translate_of s bs (length W) (length T))
+    (words : W' ≡ filled (Ok (record { count = n; end = e })) (word_list (schedule_of s (plan_of bs))) W)
+    (ticks : T' ≡ filled (Ok (record { count = n; end = e })) (tick_list (schedule_of s (plan_of bs))) T) where
   done-fit : (x : Bool) → fit s ≡ x → fit s ≡ true
   unfolding translate_of
   done-fit true h = h
-  done-fit false h = let k = rw h at answer in let z : ◌≡◌ {A = ℕ} 0 1 = cc in absurd (omega arith)
+  done-fit false h = let k = rw h at answer in cc
 
   pub translated-fit : fit s ≡ true
   translated-fit = done-fit (fit s) refl
@@ -88,7 +94,7 @@ module _ (s : Head) (bs W T W' T' : List ℕ) (n e : ℕ)
   translated-end = done.end
 
   -- a buffer that was filled with a number of each timed word
-  module _ (f : Timed → ℕ) (old new : List ℕ) (is : new ≡ filled (Done n e) (map f (schedule_of s (plan_of bs)).list) old) where
+  module _ (f : Timed → ℕ) (old new : List ℕ) (is : new ≡ filled (Ok (record { count = n; end = e })) (map f (schedule_of s (plan_of bs)).list) old) where
     abbrev values : List ℕ
     values = map f (schedule_of s (plan_of bs)).list
 
@@ -130,7 +136,7 @@ module _ (s : Head) (bs W T W' T' : List ℕ) (n e : ℕ)
       let os = orders_in (plan_of bs) in
       rw (translated-list, done.end, translated-schedule) (plan-rising s translated-fit os (accepted-fit bs os done.accepted))
 
--- Any accepted plan, a head that is fit and buffers of at least 256 places: `translate` answers Done, and demands 2 and 3 hold of what it
+-- Any accepted plan, a head that is fit and buffers of at least 256 places: `translate` answers no refusal, and demands 2 and 3 hold of what it
 -- leaves in the buffers
 module _ (s : Head) (bs W T W' T' : List ℕ) (os : List Order)
     (fits : fit s ≡ true)
@@ -145,7 +151,7 @@ module _ (s : Head) (bs W T W' T' : List ℕ) (os : List Order)
   abbrev end : ℕ
   end = (schedule_from s 0 (items_of_all os)).end
 
-  pub accepted-answer : translate_of s bs (length W) (length T) ≡ Done n end
+  pub accepted-answer : translate_of s bs (length W) (length T) ≡ Ok (record { count = n; end = end })
   accepted-answer = accepted-done s bs os fits accepted (length W) (length T) room_w room_t
 
   pub accepted-demands : Demands s bs os (paired (take n T') (take n W')) n end

@@ -11,33 +11,34 @@ use Rattle.head.specs.declared.state.Settings.{Settings}
 use Rattle.plan.specs.Read.{read_of, read_record, at_front}
 use Rattle.plan.specs.Reading.{settings_read, log_read}
 use Rattle.plan.specs.Stored.{Plan, orders, refused}
-use Rattle.plan.specs.declared.reading.Read.TheVariants.{Accepted, Refused}
+use Rattle.plan.specs.declared.stored.Refusal.{Refusal}
+use Rattle.std.specs.Prelude.{Ok, Err}
 use Rattle.plan.proofs.Recorded.{record-long}
 use Rattle.run.specs.Compare.{same}
 use Rattle.run.proofs.Comparing.{same-long}
 
 -- the record of a reading with n acts has n rows and one more; a plan that is refused has none
-read-long : (r : Settings) (p : Plan) (n : ℕ) → Accepted n ≡ read_of r p → length (read_record r p) ≡ 21 * n + 21
+read-long : (r : Settings) (p : Plan) (n : ℕ) → Ok n ≡ read_of r p → length (read_record r p) ≡ 21 * n + 21
 unfolding read_of read_record
 read-long r (orders os) n e =
     let count : n ≡ length (log_read r os) = cc in
     record-long (log_read r os) (settings_read r os) ∙ omega arith
-read-long r (refused m q) n e = let z : ◌≡◌ {A = ℕ} 0 1 = cc in absurd (omega arith)
+read-long r (refused m q) n e = cc
 
-read_none : (r : Settings) (p : Plan) (n q : ℕ) → Refused n q ≡ read_of r p → length (read_record r p) ≡ 0
+read_none : (r : Settings) (p : Plan) (f : Refusal) → Err f ≡ read_of r p → length (read_record r p) ≡ 0
 unfolding read_of read_record
-read_none r (orders os) n q e = let z : ◌≡◌ {A = ℕ} 0 1 = cc in absurd (omega arith)
-read_none r (refused m k) n q e = refl
+read_none r (orders os) f e = cc
+read_none r (refused m k) f e = refl
 
 module _ (r : Settings) (p : Plan) (rows : List ℕ) (acts : ℕ) (room : 21 * acts + 21 ≤ length rows) where
   long : length (take (21 * acts + 21) rows) ≡ 21 * acts + 21
   long = length-take-le (21 * acts + 21) rows room
 
-  pub agree-refused : {n q : ℕ} → Refused n q ≡ read_of r p → false ≡ same (take (21 * acts + 21) rows) (read_record r p)
-  agree-refused {n} {q} e =
-      sym (same-long (take (21 * acts + 21) rows) (read_record r p) (λ h. omega (arith, long, read_none r p n q e)))
+  pub agree-refused : {f : Refusal} → Err f ≡ read_of r p → false ≡ same (take (21 * acts + 21) rows) (read_record r p)
+  agree-refused {f} e =
+      sym (same-long (take (21 * acts + 21) rows) (read_record r p) (λ h. omega (arith, long, read_none r p f e)))
 
-  module _ {n : ℕ} (e : Accepted n ≡ read_of r p) where
+  module _ {n : ℕ} (e : Ok n ≡ read_of r p) where
     pub agree-other : (n ≡ acts → ⊥) → false ≡ same (take (21 * acts + 21) rows) (read_record r p)
     agree-other h =
         sym (same-long (take (21 * acts + 21) rows) (read_record r p) (λ l. h (omega (arith, long, read-long r p n e))))

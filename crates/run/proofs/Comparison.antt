@@ -13,34 +13,30 @@ use Rattle.plan.specs.Stored.{plan_of}
 use Rattle.plan.proofs.Recorded.{record-long}
 use Rattle.schedule.specs.Schedule.{Schedule}
 use Rattle.schedule.specs.Translate.{most_words, schedule_of, translate_of, filled, tick_list, word_list, translation_number, translation_place}
-use Rattle.schedule.specs.declared.Translated.{Translated}
+use Rattle.std.specs.Prelude.{Result, Ok, Err}
+use Rattle.schedule.specs.declared.Translation.{Translation}
+use Rattle.schedule.specs.declared.TranslateError.{TranslateError}
 use Rattle.run.specs.Run.{moments_of, head_after, log_of}
 use Rattle.run.specs.Rehearse.{rehearsed_by, rehearse_of, translation_of, run_of, run_record, run_times, rehearsed_number, rehearsed_place}
 use Rattle.run.specs.Compare.{same, compared_by, compared_of, compared_number, compared_place}
-use Rattle.run.specs.declared.Rehearsed.{Rehearsed}
-use Rattle.run.specs.declared.compare.Compared.{Compared}
+use Rattle.run.specs.declared.Rehearsal.{Rehearsal}
+use Rattle.run.specs.declared.compare.Comparison.{Comparison}
 use Rattle.run.proofs.Accepted.{translated-list, translated-end, translated-acts}
-use Rattle.run.proofs.Rehearsal.{Answers}
+use Rattle.run.proofs.Rehearsed.{Answers}
 
 -- the translation's answer, the number of acts and the head, in a rehearsal's
-translation-back : (s : Head) (sch : Schedule) (t : Translated) → translation_of (rehearsed_by s sch t) ≡ t
+translation-back : (s : Head) (sch : Schedule) (t : Result Translation TranslateError) → translation_of (rehearsed_by s sch t) ≡ t
 unfolding rehearsed_by
-translation-back s sch (Translated.Done n e) = refl
-translation-back s sch (Translated.Refused n p) = refl
-translation-back s sch (Translated.Short n) = refl
+translation-back s sch (Ok t) = refl
+translation-back s sch (Err e) = refl
 
-acts-back : (s : Head) (sch : Schedule) (h : Head) (n e a : ℕ) → Rehearsed.Done h n e a ≡ rehearsed_by s sch (Translated.Done n e)
-    → a ≡ length (log_of (moments_of e 0 sch.list s))
+run-back : (s : Head) (sch : Schedule) (r : Rehearsal) (t : Translation) → Ok r ≡ rehearsed_by s sch (Ok t)
+    → r ≡ record { head = head_after t.end 0 sch.list s; count = t.count; end = t.end; acts = length (log_of (moments_of t.end 0 sch.list s)) }
 unfolding rehearsed_by
-acts-back s sch h n e a is = cc
-
-head-back : (s : Head) (sch : Schedule) (h : Head) (n e a : ℕ) → Rehearsed.Done h n e a ≡ rehearsed_by s sch (Translated.Done n e)
-    → h ≡ head_after e 0 sch.list s
-unfolding rehearsed_by
-head-back s sch h n e a is = cc
+run-back s sch r t is = cc
 
 -- the promises of `compare`, for an answer and the buffers as they came back
-abbrev Promised : Head → List ℕ → List ℕ → List ℕ → List ℕ → List ℕ → Compared → List ℕ → List ℕ → List ℕ → List ℕ → Type 0
+abbrev Promised : Head → List ℕ → List ℕ → List ℕ → List ℕ → List ℕ → Result Comparison TranslateError → List ℕ → List ℕ → List ℕ → List ℕ → Type 0
 Promised s bs W T R A c W' T' R' A' =
     let sch = schedule_of s (plan_of bs) in
     (c ≡ compared_of s bs)
@@ -51,7 +47,7 @@ Promised s bs W T R A c W' T' R' A' =
     × ((compared_number c ≡ translation_number s bs most_words most_words) × (compared_place c ≡ translation_place s bs))))))
 
 module _ (s : Head) (bs W T R A : List ℕ) (long_w : length W ≡ most_words) (long_t : length T ≡ most_words)
-    {W' T' R' A' : List ℕ} {r : Rehearsed} (ran : Answers s bs W T R A r W' T' R' A') where
+    {W' T' R' A' : List ℕ} {r : Result Rehearsal TranslateError} (ran : Answers s bs W T R A r W' T' R' A') where
   abbrev sch : Schedule
   sch = schedule_of s (plan_of bs)
 
@@ -80,38 +76,51 @@ module _ (s : Head) (bs W T R A : List ℕ) (long_w : length W ≡ most_words) (
   place_is : rehearsed_place r ≡ translation_place s bs
   place_is = ran.1.1.1.1.1.1.1
 
-  -- not done: the answer has the number and the place of the translation's
-  pub way-refused : ((h : Head) (n e a : ℕ) → r ≡ Rehearsed.Done h n e a → ⊥) → {n p : ℕ} → n ≡ rehearsed_number r → p ≡ rehearsed_place r
-      → Promised s bs W T R A (Compared.Refused n p) W' T' R' A'
+  -- the translation's refusal
+  pub way-refused : {c : Result Comparison TranslateError} {f : TranslateError} → c ≡ Err f → r ≡ Err f → Promised s bs W T R A c W' T' R' A'
   unfolding compared_by compared_of
-  way-refused other {n} {p} is at = (same_answer r refl, (words_are, (ticks-are, (rows_are, (times-are, (is ∙ number_is, at ∙ place_is))))))
-    where
-      same_answer : (r' : Rehearsed) → r ≡ r' → Compared.Refused n p ≡ compared_of s bs
-      same_answer (Rehearsed.Done h m e a) k = absurd (other h m e a k)
-      same_answer (Rehearsed.Refused m q) k = rw (is, at, ← answer, k)
-      same_answer (Rehearsed.Short m) k = rw (is, at, ← answer, k)
+  way-refused refused is =
+      rw refused (
+        rw (← answer, is),
+        (words_are, (ticks-are, (rows_are, (times-are, (rw is at number_is, rw is at place_is))))),
+      )
 
-  module _ {h : Head} {n e a : ℕ} (is : r ≡ Rehearsed.Done h n e a) where
-    done : translate_of s bs most_words most_words ≡ Translated.Done n e
+  module _ {x : Rehearsal} (is : r ≡ Ok x) where
+    abbrev h : Head
+    h = x.head
+
+    abbrev n : ℕ
+    n = x.count
+
+    abbrev e : ℕ
+    e = x.end
+
+    abbrev a : ℕ
+    a = x.acts
+
+    done : translate_of s bs most_words most_words ≡ Ok (record { count = n; end = e })
     done = sym answer ∙ ap translation_of is
 
-    translated : Translated.Done n e ≡ translate_of s bs (length W) (length T)
+    back : x ≡ record { head = head_after e 0 sch.list s; count = n; end = e; acts = length (log_of (moments_of e 0 sch.list s)) }
+    back = run-back s sch x (record { count = n; end = e }) (sym is ∙ told ∙ ap (rehearsed_by s sch) done)
+
+    translated : Ok (record { count = n; end = e }) ≡ translate_of s bs (length W) (length T)
     translated = rw (long_w, long_t) (sym done)
 
-    words : W' ≡ filled (Translated.Done n e) (word_list sch) W
+    words : W' ≡ filled (Ok (record { count = n; end = e })) (word_list sch) W
     words = rw done at words_are
 
-    ticks : T' ≡ filled (Translated.Done n e) (tick_list sch) T
+    ticks : T' ≡ filled (Ok (record { count = n; end = e })) (tick_list sch) T
     ticks = rw done at ticks-are
 
     acts : a ≡ length (log_of (moments_of e 0 sch.list s))
-    acts = acts-back s sch h n e a (sym is ∙ told ∙ ap (rehearsed_by s sch) done)
+    acts = ap (λ (y : Rehearsal). y.acts) back
 
     ends : e ≡ sch.end
     ends = translated-end s bs W T W' T' n e translated words ticks
 
     last : h ≡ head_after sch.end 0 sch.list s
-    last = head-back s sch h n e a (sym is ∙ told ∙ ap (rehearsed_by s sch) done) ∙ ap (λ (n : ℕ). head_after n 0 sch.list s) ends
+    last = ap (λ (y : Rehearsal). y.head) back ∙ ap (λ (n : ℕ). head_after n 0 sch.list s) ends
 
     pub way-acts : a ≤ 64
     way-acts =
@@ -131,7 +140,7 @@ module _ (s : Head) (bs W T R A : List ℕ) (long_w : length W ≡ most_words) (
         ∙ take_at values (drop (length values) R) (21 * a + 21) (long ∙ ap (λ (n : ℕ). 21 * n + 21) (sym acts-are))
 
     pub way-done : {b : Bool} → b ≡ same (take (21 * a + 21) R') (read_record s.settings (plan_of bs))
-        → Promised s bs W T R A (Compared.Done h n e a b) W' T' R' A'
+        → Promised s bs W T R A (Ok (record { head = h; count = n; end = e; acts = a; equal = b })) W' T' R' A'
     unfolding compared_by compared_of
     way-done compared =
         let equal = compared ∙ ap (λ (l : List ℕ). same l (read_record s.settings (plan_of bs))) front in

@@ -21,7 +21,7 @@ use Rattle.schedule.proofs.Accepted.{accepted-schedule, accepted-done}
 use Rattle.run.specs.Run.{head_after, log_of}
 use Rattle.run.specs.Rehearse.{run_of, run_record}
 use Rattle.run.specs.Compare.{same, compared_by, compared_of}
-use Rattle.run.specs.declared.compare.Compared.{Compared}
+use Rattle.std.specs.Prelude.{Ok}
 use Rattle.run.proofs.Whole.{run-whole}
 use Rattle.run.proofs.Comparing.{same_self, same-equal}
 
@@ -42,11 +42,13 @@ module _ (s : Head) (bs : List ℕ) (os : List Order) (h : fit s ≡ true) (e : 
   record_is = rw (e, log_is, (run-whole s os h (accepted-fit bs os e)).settings)
 
   pub compared-equal : compared_of s bs
-      ≡ Compared.Done (head_after (schedule_from s 0 (items_of_all os)).end 0 (schedule_from s 0 (items_of_all os)).list s)
-      (length (schedule_from s 0 (items_of_all os)).list)
-      (schedule_from s 0 (items_of_all os)).end
-      (length (log_read s.settings os))
-      true
+      ≡ Ok (record {
+        head = head_after (schedule_from s 0 (items_of_all os)).end 0 (schedule_from s 0 (items_of_all os)).list s;
+        count = length (schedule_from s 0 (items_of_all os)).list;
+        end = (schedule_from s 0 (items_of_all os)).end;
+        acts = length (log_read s.settings os);
+        equal = true;
+      })
   unfolding compared_of compared_by
   compared-equal =
       rw (accepted-done s bs os h e most_words most_words (omega arith) (omega arith), accepted-schedule s bs os h e, record_is, log_is, same_self (read_record s.settings (plan_of bs)))

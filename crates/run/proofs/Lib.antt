@@ -6,7 +6,7 @@ pub mod Timing
 pub mod Accepted
 pub mod NextWord
 pub mod Rehearsing
-pub mod Rehearsal
+pub mod Rehearsed
 pub mod Acting
 pub mod Comparing
 pub mod Agreeing

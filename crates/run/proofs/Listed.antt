@@ -24,7 +24,7 @@ use Rattle.head.specs.declared.word.Cause.{Cause}
 use Rattle.head.specs.declared.word.Cause.TheVariants.{State, Busy, CoverMoving, UnknownWord, Range, Turn}
 use Rattle.head.specs.declared.word.Outcome.{Outcome}
 use Rattle.head.specs.declared.word.Outcome.TheVariants.{Taken, Ignored}
-use Rattle.head.specs.declared.list.ListAnswer.TheVariants.{Done}
+use Rattle.std.specs.Prelude.{Ok}
 use Rattle.head.proofs.Ticks.{ticks-settings}
 use Rattle.head.proofs.BusyTicks.{ticks-still}
 use Rattle.head.proofs.Giving.{listed-keeps}
@@ -33,7 +33,6 @@ use Rattle.plan.specs.Stored.{plan_of, orders_in}
 use Rattle.schedule.specs.Earliest.{is_taken}
 use Rattle.schedule.specs.Schedule.{Rising}
 use Rattle.schedule.specs.Translate.{fit, schedule_of, translate_of, filled, tick_list, word_list}
-use Rattle.schedule.specs.declared.Translated.TheVariants as translated
 use Rattle.run.specs.Run.{Moment, answered, next, head_after}
 use Rattle.run.specs.Claim.{AllObeyed, paired, Demands}
 use Rattle.run.specs.Listed.{NoCause, clock_after, InOneCall}
@@ -149,7 +148,7 @@ module _ (s : Head) (bs : List ℕ) (os : List Order) (ws ts : List ℕ) (n end 
   long : length ws ≤ most_words
   long = omega (arith, paired_long ts ws, d.counted, d.most)
 
-  done : (room : ℕ) → length ws ≤ room → list_of s ws ts room ≡ record { head = head_listed ws ts s; answer = Done }
+  done : (room : ℕ) → length ws ≤ room → list_of s ws ts room ≡ record { head = head_listed ws ts s; answer = Ok tt }
   unfolding list_of is_list
   done room fits =
       rw (
@@ -173,11 +172,11 @@ module _ (s : Head) (bs : List ℕ) (os : List Order) (ws ts : List ℕ) (n end 
         rest = at-end;
       }
 
--- `translate` answered Done n e; W and T are the buffers as they were lent, W' and T' as they came back
+-- `translate` answered n words and the end e; W and T are the buffers as they were lent, W' and T' as they came back
 module _ (s : Head) (bs W T W' T' : List ℕ) (n e : ℕ)
-    (answer : translated.Done n e ≡ translate_of s bs (length W) (length T))
-    (words : W' ≡ filled (translated.Done n e) (word_list (schedule_of s (plan_of bs))) W)
-    (ticks : T' ≡ filled (translated.Done n e) (tick_list (schedule_of s (plan_of bs))) T) where
+    (answer : Ok (record { count = n; end = e }) ≡ translate_of s bs (length W) (length T))
+    (words : W' ≡ filled (Ok (record { count = n; end = e })) (word_list (schedule_of s (plan_of bs))) W)
+    (ticks : T' ≡ filled (Ok (record { count = n; end = e })) (tick_list (schedule_of s (plan_of bs))) T) where
   pub translated-listed : InOneCall s (orders_in (plan_of bs)) (take n W') (take n T') e
   translated-listed =
       let a = room-words s bs W T W' T' n e answer words ticks in

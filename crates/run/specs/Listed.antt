@@ -1,6 +1,6 @@
 -- Document 02, request P1, beside demand 3: the list of an accepted plan handed to the head in one call.
 -- Assumes nothing.
-use Rattle.std.specs.Prelude.{ℕ, ◌+◌, ◌-◌, ◌≤◌, ◌≡◌, true, false, List, [], ◌∷◌, length}
+use Rattle.std.specs.Prelude.{ℕ, ◌+◌, ◌-◌, ◌≤◌, ◌≡◌, true, false, List, [], ◌∷◌, length, Ok}
 use Rattle.head.specs.Busy.{at_rest}
 use Rattle.head.specs.Word.{answer_of}
 use Rattle.head.specs.Tick.{ticks_of}
@@ -8,7 +8,6 @@ use Rattle.head.specs.Numbers.{cause_number, outcome_number, is_cause}
 use Rattle.head.specs.List.{stepped, head_listed, numbers_listed, list_of}
 use Rattle.head.specs.declared.state.Head.{Head}
 use Rattle.head.specs.declared.word.Cause.{Cause}
-use Rattle.head.specs.declared.list.ListAnswer.TheVariants.{Done}
 use Rattle.orders.specs.declared.order.Order.{Order}
 use Rattle.plan.specs.Reading.{settings_read}
 use Rattle.run.specs.Run.{head_after}
@@ -36,7 +35,7 @@ Ready (w ∷ ws) (t ∷ ts) s =
 -- The claim for a head, the orders of a plan that was translated for it, the words and ticks of the translation, and its end.
 pub record InOneCall (s : Head) (os : List Order) (words ticks : List ℕ) (end : ℕ) : Type 0 where
   -- The call takes the list: any buffer that has a place for each outcome will do.
-  pub answer : (room : ℕ) → length words ≤ room → list_of s words ticks room ≡ record { head = head_listed words ticks s; answer = Done }
+  pub answer : (room : ℕ) → length words ≤ room → list_of s words ticks room ≡ record { head = head_listed words ticks s; answer = Ok tt }
   -- No outcome is a cause: every word was taken.
   pub taken : NoCause (numbers_listed words ticks s)
   -- The last settings are those of the plan, read order by order without any words.

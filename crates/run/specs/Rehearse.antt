@@ -1,15 +1,16 @@
 -- A plan translated for a head and run to its end: the answer, and demands 2 and 3 of what the buffers then hold.
 -- Assumes nothing.
-use Rattle.std.specs.Prelude.{ℕ, ◌≡◌, List, length, take}
+use Rattle.std.specs.Prelude.{ℕ, ◌≡◌, List, length, take, Result, Ok, Err}
 use Rattle.head.specs.declared.state.Head.{Head}
 use Rattle.plan.specs.Rows.{record_of}
 use Rattle.plan.specs.Stored.{plan_of, orders_in}
 use Rattle.schedule.specs.Schedule.{Schedule}
 use Rattle.schedule.specs.Translate.{schedule_of, translate_of, translated_number, translated_place}
-use Rattle.schedule.specs.declared.Translated.{Translated}
+use Rattle.schedule.specs.declared.Translation.{Translation}
+use Rattle.schedule.specs.declared.TranslateError.{TranslateError}
 use Rattle.run.specs.Run.{Moment, moments_of, head_after, log_of, times_of}
 use Rattle.run.specs.Claim.{paired, Demands}
-use Rattle.run.specs.declared.Rehearsed.{Rehearsed}
+use Rattle.run.specs.declared.Rehearsal.{Rehearsal}
 
 -- The first n places of a buffer of ticks and one of words, and an end, read as a schedule.
 abbrev pub buffered : ℕ → ℕ → List ℕ → List ℕ → Schedule
@@ -28,33 +29,36 @@ unfoldable pub run_times : Head → Schedule → List ℕ
 run_times s sch = times_of 0 (run_of s sch)
 
 -- The head after the schedule and the number of its acts, where there is one; the translation's answer otherwise.
-unfoldable pub rehearsed_by : Head → Schedule → Translated → Rehearsed
-rehearsed_by s sch (Translated.Done n e) =
-    Rehearsed.Done (head_after e 0 sch.list s) n e (length (log_of (moments_of e 0 sch.list s)))
-rehearsed_by s sch (Translated.Refused n p) = Rehearsed.Refused n p
-rehearsed_by s sch (Translated.Short n) = Rehearsed.Short n
+unfoldable pub rehearsed_by : Head → Schedule → Result Translation TranslateError → Result Rehearsal TranslateError
+rehearsed_by s sch (Ok t) =
+    Ok (record {
+      head = head_after t.end 0 sch.list s;
+      count = t.count;
+      end = t.end;
+      acts = length (log_of (moments_of t.end 0 sch.list s));
+    })
+rehearsed_by s sch (Err e) = Err e
 
 -- The buffers' lengths are a and b.
-unfoldable pub rehearse_of : Head → List ℕ → ℕ → ℕ → Rehearsed
+unfoldable pub rehearse_of : Head → List ℕ → ℕ → ℕ → Result Rehearsal TranslateError
 rehearse_of s bs a b = rehearsed_by s (schedule_of s (plan_of bs)) (translate_of s bs a b)
 
 -- The translation's answer in a rehearsal's.
-abbrev pub translation_of : Rehearsed → Translated
-translation_of (Rehearsed.Done h n e a) = Translated.Done n e
-translation_of (Rehearsed.Refused n p) = Translated.Refused n p
-translation_of (Rehearsed.Short n) = Translated.Short n
+abbrev pub translation_of : Result Rehearsal TranslateError → Result Translation TranslateError
+translation_of (Ok r) = Ok (record { count = r.count; end = r.end })
+translation_of (Err e) = Err e
 
 -- The refusal's number of document 01, 0 for none, and its byte place: the translation's.
-abbrev pub rehearsed_number : Rehearsed → ℕ
+abbrev pub rehearsed_number : Result Rehearsal TranslateError → ℕ
 rehearsed_number r = translated_number (translation_of r)
 
-abbrev pub rehearsed_place : Rehearsed → ℕ
+abbrev pub rehearsed_place : Result Rehearsal TranslateError → ℕ
 rehearsed_place r = translated_place (translation_of r)
 
 -- Where the answer is a head, W and T hold the words and ticks by which the plan keeps demands 2 and 3, and the head is the one at the end
 -- of that run.
-unfoldable pub Fulfilled : Head → List ℕ → List ℕ → List ℕ → Rehearsed → Type 0
-Fulfilled s bs W T (Rehearsed.Done h n e a) =
-    (h ≡ head_after e 0 (paired (take n T) (take n W)) s) × Demands s bs (orders_in (plan_of bs)) (paired (take n T) (take n W)) n e
-Fulfilled s bs W T (Rehearsed.Refused n p) = Unit {0}
-Fulfilled s bs W T (Rehearsed.Short n) = Unit {0}
+unfoldable pub Fulfilled : Head → List ℕ → List ℕ → List ℕ → Result Rehearsal TranslateError → Type 0
+Fulfilled s bs W T (Ok r) =
+    (r.head ≡ head_after r.end 0 (paired (take r.count T) (take r.count W)) s)
+    × Demands s bs (orders_in (plan_of bs)) (paired (take r.count T) (take r.count W)) r.count r.end
+Fulfilled s bs W T (Err e) = Unit {0}

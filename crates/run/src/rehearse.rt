@@ -9,11 +9,11 @@ ghost use Rattle.schedule.specs.Translate.{schedule_of, filled, tick_list, word_
 ghost use Rattle.run.specs.Run.{next, head_after, moment_log, log_of};
 ghost use Rattle.run.specs.Rehearse.{rehearse_of, translation_of, buffered, run_of, run_record, run_times, Fulfilled, rehearsed_number, rehearsed_place};
 
-use crate::Rehearsed;
+use crate::Rehearsal;
 use crate::acts::log_outcome;
 use head::state::Head;
 use plan::log::{END, lay, settings_row};
-use schedule::Translated;
+use schedule::TranslateError;
 use schedule::translate::translate;
 
 // A head, and how many acts it has made.
@@ -61,15 +61,13 @@ fn run_words(
     let mut state = head;
     let mut clock: u32 = 0;
     let mut acts: usize = 0;
-    let mut i: usize = 0;
-    while i < count {
+    for i in 0..count {
         let tick = ticks[i];
         let found = state.pass(tick - clock);
         let given = give(found, words[i], tick, rows, times, acts);
         state = given.head;
         acts = given.acts;
         clock = tick + 1;
-        i = i + 1;
     }
     let last = state.pass(end - clock);
     lay(rows, acts, settings_row(END, last.settings));
@@ -84,7 +82,7 @@ pub fn rehearse(
     ticks: &mut [u32],
     rows: &mut [u16; 1365],
     times: &mut [u32; 64],
-) -> Rehearsed
+) -> Result<Rehearsal, TranslateError>
     ensures value { result ≡ rehearse_of head plan.now (length words.old) (length ticks.old) }
     ensures words_after { words.new ≡ filled (translation_of result) (word_list (schedule_of head (plan_of plan.now))) words.old }
     ensures ticks_after { ticks.new ≡ filled (translation_of result) (tick_list (schedule_of head (plan_of plan.now))) ticks.old }
@@ -94,19 +92,15 @@ pub fn rehearse(
     ensures result_value { rehearsed_number result ≡ translation_number head plan.now (length words.old) (length ticks.old) }
     ensures result_value_2 { rehearsed_place result ≡ translation_place head plan.now }
 {
-    let answer = translate(head, plan, words, ticks);
-    match answer {
-        Translated::Done { count, end } => {
-            let ran = run_words(head, words, ticks, count, end, rows, times);
-            let after = ran.head;
-            Rehearsed::Done {
-                head: after,
-                count,
-                end,
-                acts: ran.acts,
-            }
-        }
-        Translated::Refused { number, place } => Rehearsed::Refused { number, place },
-        Translated::Short { count } => Rehearsed::Short { count },
-    }
+    let translation = translate(head, plan, words, ticks)?;
+    let count = translation.count;
+    let end = translation.end;
+    let ran = run_words(head, words, ticks, count, end, rows, times);
+    let after = ran.head;
+    Ok(Rehearsal {
+        head: after,
+        count,
+        end,
+        acts: ran.acts,
+    })
 }

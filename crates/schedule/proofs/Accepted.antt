@@ -1,4 +1,4 @@
--- Every accepted plan is translated: a head that is fit and buffers of 256 places each are answered `Done`.
+-- Every accepted plan is translated: a head that is fit and buffers of 256 places each are answered by a translation.
 -- Assumes nothing.
 use mathlib.Core.Path.{◌≡◌}
 use mathlib.Core.Bool.{true}
@@ -14,7 +14,7 @@ use Rattle.plan.specs.Stored.{orders, plan_of}
 use Rattle.plan.proofs.Accepted.{accepted-fit, accepted-few}
 use Rattle.schedule.specs.Schedule.{Schedule, schedule_from}
 use Rattle.schedule.specs.Translate.{fit, most_words, schedule_of, answer_of_plan, translate_of}
-use Rattle.schedule.specs.declared.Translated.TheVariants.{Done}
+use Rattle.std.specs.Prelude.{Ok}
 use Rattle.schedule.proofs.Plans.{plan-count}
 
 module _ (s : Head) (bs : List ℕ) (os : List Order) (h : fit s ≡ true) (e : plan_of bs ≡ orders os) where
@@ -25,7 +25,7 @@ module _ (s : Head) (bs : List ℕ) (os : List Order) (h : fit s ≡ true) (e : 
   unfolding schedule_of
   accepted-schedule = rw e
 
-  pub accepted-done : (a b : ℕ) → most_words ≤ a → most_words ≤ b → translate_of s bs a b ≡ Done (length made.list) made.end
+  pub accepted-done : (a b : ℕ) → most_words ≤ a → most_words ≤ b → translate_of s bs a b ≡ Ok (record { count = length made.list; end = made.end })
   unfolding translate_of answer_of_plan
   accepted-done a b p q =
       let few = plan-count s h os (accepted-fit bs os e) (accepted-few bs os e) in

@@ -1,6 +1,6 @@
 -- Items as words of known kinds: each with allowed data and, in a set of mirror words, in turn.
 -- Assumes nothing.
-use mathlib.Core.Path.{◌≡◌, refl, sym}
+use mathlib.Core.Path.{◌≡◌, refl, sym, ap}
 use mathlib.Core.Bool.{Bool, true, false, cond}
 use mathlib.Core.List.{List, [], ◌∷◌, ◌++◌}
 use Prim.Native.Nat.{ℕ}
@@ -10,7 +10,8 @@ use lib.Dec.{eqb}
 use Rattle.words.specs.Kinds as kind
 use Rattle.words.specs.Kinds.{rows, least, greatest, allowed, bits_of}
 use Rattle.words.specs.Codec.{word_of, encode_of, decode_of}
-use Rattle.words.specs.declared.Decoded.TheVariants.{Word}
+use Rattle.words.specs.declared.Word.{Word}
+use Rattle.std.specs.Prelude.{Ok}
 use Rattle.words.proofs.Codec.{encode-decode, decode-read}
 use Rattle.head.specs.Word.{out_of_turn}
 use Rattle.head.proofs.Bounds.{allowed-most}
@@ -45,7 +46,7 @@ in-turn-append (given k b fine turn i) r = given k b fine turn (in-turn-append i
 in-turn-append (paused n i) r = paused n (in-turn-append i r)
 
 -- a word read back
-pub word-decoded : (k b : ℕ) → allowed k b ≡ true → decode_of (word_of k b) ≡ Word k b
+pub word-decoded : (k b : ℕ) → allowed k b ≡ true → decode_of (word_of k b) ≡ Ok (record { kind = k; bits = b })
 unfolding encode_of
 word-decoded k b fine = encode-decode (word_of k b) k b (rw fine)
 
@@ -70,9 +71,10 @@ module _ (k b : ℕ) (fine : allowed k b ≡ true) where
         where
           kinds : word_of k b ≡ word_of j 0 → k ≡ j
           kinds same =
-              let p : decode_of (word_of k b) ≡ Word k b = word-decoded k b fine in
-              let q : decode_of (word_of j 0) ≡ Word j 0 = word-decoded j 0 fine-j in
-              cc
+              let p : decode_of (word_of k b) ≡ Ok (record { kind = k; bits = b }) = word-decoded k b fine in
+              let q : decode_of (word_of j 0) ≡ Ok (record { kind = j; bits = 0 }) = word-decoded j 0 fine-j in
+              let read : ◌≡◌ {A = Word} (record { kind = k; bits = b }) (record { kind = j; bits = 0 }) = cc in
+              ap (λ (w : Word). w.kind) read
 
   pub is-start : eqb (word_of k b) start_word ≡ eqb k kind.start
   unfolding word_of rows allowed least greatest

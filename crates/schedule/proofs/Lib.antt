@@ -8,6 +8,5 @@ pub mod OrderClocked
 pub mod OrderLaid
 pub mod Laying
 pub mod OnePass
-pub mod Copying
 pub mod Translating
 pub mod Numbered

@@ -3,6 +3,7 @@
 use mathlib.Core.Path.{◌≡◌, refl, sym, ap, ◌∙◌}
 use mathlib.Core.Bool.{true}
 use mathlib.Core.List.{List, []}
+use Rattle.std.specs.Prelude.{Ok, Err}
 use Prim.Native.Nat.{ℕ, suc, ◌+◌, ◌-◌, ◌*◌, ◌≤◌, ◌<◌}
 use native.Mathlib.Nat.{add_assoc}
 use native.Mathlib.Omega.{arith}
@@ -12,13 +13,16 @@ use Rattle.orders.specs.Codes.{fit}
 use Rattle.orders.specs.Words.{words_of, items_of, items_of_all}
 use Rattle.orders.specs.declared.order.Order.{Order}
 use Rattle.plan.specs.Stored.{Plan, orders, refused, byte_at, order_at, fault_at, before, orders_from, most_orders}
+use Rattle.plan.specs.Judged.{fault_of, checked_at}
+use Rattle.plan.specs.declared.stored.Fault.{Fault}
+use Rattle.plan.specs.declared.stored.Fault.TheVariants.{TooMany}
 use Rattle.plan.proofs.Accepted.{sound}
+use Rattle.plan.proofs.Faults.{err-some, err-is}
 use Rattle.plan.proofs.Laid.{sets-append}
 use Rattle.plan.proofs.Judging.{from_end, from-many, from-fault, from-order}
 use Rattle.schedule.specs.Clock.{Near, early, longest_order, clocked_from, clock_through}
 use Rattle.schedule.specs.Filled.{order_ticks, timed_by, word_total, laid_of, words_laid, ticks_laid}
 use Rattle.schedule.specs.Translate.{most_words, tick_list, word_list}
-use Rattle.schedule.specs.declared.Translated.{Translated}
 use Rattle.schedule.specs.declared.clock.Clock.{Clock}
 use Rattle.schedule.proofs.Clocked.{clocked-end, near-more}
 use Rattle.schedule.proofs.OrderLaid.{fit-few, words-then, ticks-then, ticks-long}
@@ -60,23 +64,10 @@ pub record Passing (words₀ ticks₀ bs : List ℕ) (start : Clock) (words tick
   pub same_ticks : ticks_laid (orders_from most_orders bs 3) start 0 ticks₀ ≡ ticks_laid (orders_from (64 - k) bs at) clock next ticks
 
 module _ {words₀ ticks₀ bs : List ℕ} {start : Clock} where
-  pub passing-first : Near 0 start → Passing words₀ ticks₀ bs start words₀ ticks₀ 3 0 start 0
-  passing-first near =
-      record {
-        passed = omega arith;
-        small = omega arith;
-        near = near-more 0 (longest_order * 0) start (omega arith) near;
-        long_words = refl;
-        long_ticks = refl;
-        same_answer = refl;
-        same_words = refl;
-        same_ticks = refl;
-      }
-
   module _ {words ticks : List ℕ} {at next : ℕ} {clock : Clock} {k : ℕ} (h : Passing words₀ ticks₀ bs start words ticks at next clock k) where
     -- the ways out
-    pub passing-many : at < length bs → 64 ≤ k → Translated.Refused 9 at ≡ laid_of (orders_from most_orders bs 3) start 0
-    unfolding laid_of
+    pub passing-many : at < length bs → 64 ≤ k → Err (record { fault = TooMany; place = at }) ≡ laid_of (orders_from most_orders bs 3) start 0
+    unfolding laid_of fault_of
     passing-many more full =
         let none : 64 - k ≡ 0 = omega arith in
         sym (h.same_answer ∙ ap (λ (m : ℕ). laid_of (orders_from m bs at) clock next) none ∙ ap (λ (p : Plan). laid_of p clock next) (from-many bs at more))
@@ -85,11 +76,11 @@ module _ {words₀ ticks₀ bs : List ℕ} {start : Clock} where
       none : orders_from (64 - k) bs at ≡ orders []
       none = from_end bs at (64 - k) all
 
-      pub passing-end : Translated.Done next clock.now ≡ laid_of (orders_from most_orders bs 3) start 0
+      pub passing-end : Ok (record { count = next; end = clock.now }) ≡ laid_of (orders_from most_orders bs 3) start 0
       unfolding laid_of word_total clocked_from items_of_all
       passing-end =
           let n : next ≡ next + 0 = omega arith in
-          ap (λ (m : ℕ). Translated.Done m clock.now) n ∙ sym (h.same_answer ∙ ap (λ (p : Plan). laid_of p clock next) none)
+          ap (λ (m : ℕ). Ok (record { count = m; end = clock.now })) n ∙ sym (h.same_answer ∙ ap (λ (p : Plan). laid_of p clock next) none)
 
       pub passing-words : words ≡ words_laid (orders_from most_orders bs 3) start 0 words₀
       unfolding words_laid clocked_from items_of_all
@@ -103,22 +94,19 @@ module _ {words₀ ticks₀ bs : List ℕ} {start : Clock} where
       step : 64 - k ≡ suc (64 - (k + 1))
       step = omega arith
 
-      pub passing-fault : {f : ℕ} → f ≡ fault_at bs at → (f ≡ 0 → ⊥) → Translated.Refused f at ≡ laid_of (orders_from most_orders bs 3) start 0
+      pub passing-fault : {f : Fault} → Err f ≡ checked_at bs at → Err (record { fault = f; place = at }) ≡ laid_of (orders_from most_orders bs 3) start 0
       unfolding laid_of
-      passing-fault is faulty =
-          rw is
+      passing-fault e =
+          rw (err-is _ _ e)
           (sym
           (h.same_answer
           ∙ ap (λ (m : ℕ). laid_of (orders_from m bs at) clock next) step
-          ∙ ap (λ (p : Plan). laid_of p clock next) (from-fault bs at more (64 - (k + 1)) (λ e. faulty (is ∙ e)))))
+          ∙ ap (λ (p : Plan). laid_of p clock next) (from-fault bs at more (64 - (k + 1)) (err-some _ _ e))))
 
       module _ (whole : fault_at bs at ≡ 0) where
         -- one turn
         pub passing-fits : fit (order_at bs at) ≡ true
         passing-fits = (sound bs at whole).fits
-
-        pub passing-within : at + 1 + byte_at bs at ≤ length bs
-        passing-within = (sound bs at whole).ends
 
         pub passing-early : Near early clock
         passing-early = near-more (longest_order * k) early clock (omega arith) h.near

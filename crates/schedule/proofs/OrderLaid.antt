@@ -27,9 +27,6 @@ module _ (o : Order) (f : fit o ≡ true) where
   pub fit-few : length (words_of o) ≤ 4
   fit-few = (words-few o (fit-known o f)).most
 
-  pub fit-not-three : length (words_of o) ≡ 3 → ⊥
-  fit-not-three = (words-few o (fit-known o f)).three
-
   -- what the code is given for the order holds its words
   pub given-words : (r : Words) → r ≡ listed (words_cut o) → words_in r ≡ words_of o
   unfolding listed

@@ -1,11 +1,13 @@
 -- What one order leaves in the two lists and of the clock, as the code's steps promise it.
 -- Assumes nothing.
-use Rattle.std.specs.Prelude.{List, [], ◌∷◌, ℕ, zero, suc, ◌+◌, ◌≡◌, length}
+use Rattle.std.specs.Prelude.{List, [], ◌∷◌, ℕ, zero, suc, ◌+◌, length, Result, Ok, Err}
 use Rattle.std.proofs.lemmas.List.Edits.{sets}
 use Rattle.orders.specs.Words.{words_of, items_of, items_of_all}
 use Rattle.orders.specs.declared.order.Order.{Order}
 use Rattle.plan.specs.Stored.{Plan, orders, refused}
-use Rattle.schedule.specs.declared.Translated.{Translated}
+use Rattle.plan.specs.Judged.{refusal_of}
+use Rattle.plan.specs.declared.stored.Refusal.{Refusal}
+use Rattle.schedule.specs.declared.Translation.{Translation}
 use Rattle.schedule.specs.Schedule.{Schedule}
 use Rattle.schedule.specs.Clock.{clocked_from}
 use Rattle.schedule.specs.Translate.{word_list, tick_list}
@@ -30,9 +32,9 @@ word_total [] = 0
 word_total (o ∷ os) = length (words_of o) + word_total os
 
 -- The answer for orders that are laid from a place on, the clock before them being c.
-unfoldable pub laid_of : Plan → Clock → ℕ → Translated
-laid_of (orders os) c n = Translated.Done (n + word_total os) (timed_by c os).end
-laid_of (refused m p) c n = Translated.Refused m p
+unfoldable pub laid_of : Plan → Clock → ℕ → Result Translation Refusal
+laid_of (orders os) c n = Ok (record { count = n + word_total os; end = (timed_by c os).end })
+laid_of (refused m p) c n = Err (refusal_of m p)
 
 -- Lists with the words, or the ticks, of orders from a place on; of a plan that is refused nothing is said.
 unfoldable pub words_laid : Plan → Clock → ℕ → List ℕ → List ℕ
@@ -42,8 +44,3 @@ words_laid (refused m p) c n l = []
 unfoldable pub ticks_laid : Plan → Clock → ℕ → List ℕ → List ℕ
 ticks_laid (orders os) c n l = sets l n (tick_list (timed_by c os))
 ticks_laid (refused m p) c n l = []
-
-abbrev pub WhenDone : Translated → List ℕ → List ℕ → Type 0
-WhenDone (Translated.Done n e) l v = l ≡ v
-WhenDone (Translated.Refused n p) l v = Unit {0}
-WhenDone (Translated.Short n) l v = Unit {0}

@@ -1,15 +1,16 @@
 -- Document 01, "Plans": what translation answers, and what it leaves in the two buffers.
 -- Assumes nothing.
-use Rattle.std.specs.Prelude.{ℕ, ◌*◌, Bool, cond, not, ◌&&◌, List, [], map, ◌++◌, leb, eqb, length, take, drop}
+use Rattle.std.specs.Prelude.{ℕ, ◌*◌, Bool, cond, not, ◌&&◌, List, [], map, ◌++◌, leb, eqb, length, take, drop, Result, Ok, Err}
 use Rattle.head.specs.Busy.{is_busy, at_rest}
 use Rattle.head.specs.Range.{in_range}
 use Rattle.head.specs.declared.state.Head.{Head}
 use Rattle.orders.specs.Words.{items_of_all}
 use Rattle.orders.specs.declared.encoding.Words.{Words}
 use Rattle.plan.specs.Stored.{Plan, orders, refused, most_orders, plan_of, plan_number, plan_place}
+use Rattle.plan.specs.Judged.{refusal_number, refusal_of}
 use Rattle.schedule.specs.Schedule.{Timed, Schedule, schedule_from}
-use Rattle.schedule.specs.declared.Translated.{Translated}
-use Rattle.schedule.specs.declared.Translated.TheVariants.{Done, Refused, Short}
+use Rattle.schedule.specs.declared.Translation.{Translation}
+use Rattle.schedule.specs.declared.TranslateError.{TranslateError}
 
 -- In range, idle, and nothing moving.
 unfoldable pub fit : Head → Bool
@@ -25,22 +26,22 @@ schedule_of s (orders os) = schedule_from s 0 (items_of_all os)
 schedule_of s (refused n p) = record { list = []; end = 0 }
 
 -- 10: either buffer shorter than the count.
-unfoldable pub answer_of_plan : Plan → Schedule → ℕ → ℕ → Translated
-answer_of_plan (refused n p) sch a b = Refused n p
+unfoldable pub answer_of_plan : Plan → Schedule → ℕ → ℕ → Result Translation TranslateError
+answer_of_plan (refused n p) sch a b = Err (TranslateError.Plan (refusal_of n p))
 answer_of_plan (orders os) sch a b =
     cond (leb (length sch.list) a && leb (length sch.list) b)
-    (Done (length sch.list) sch.end)
-    (Short (length sch.list))
+    (Ok (record { count = length sch.list; end = sch.end }))
+    (Err (TranslateError.Short (length sch.list)))
 
 -- 1: state out of range, busy, or anything moving; then 2-9, then 10. The buffers' lengths are a and b.
-unfoldable pub translate_of : Head → List ℕ → ℕ → ℕ → Translated
-translate_of s bs a b = cond (fit s) (answer_of_plan (plan_of bs) (schedule_of s (plan_of bs)) a b) (Refused 1 0)
+unfoldable pub translate_of : Head → List ℕ → ℕ → ℕ → Result Translation TranslateError
+translate_of s bs a b =
+    cond (fit s) (answer_of_plan (plan_of bs) (schedule_of s (plan_of bs)) a b) (Err TranslateError.StateUnfit)
 
 -- A refusal writes to neither buffer; success fills the first count places only.
-unfoldable pub filled : Translated → List ℕ → List ℕ → List ℕ
-filled (Done n e) values old = values ++ drop (length values) old
-filled (Refused n p) values old = old
-filled (Short n) values old = old
+unfoldable pub filled : Result Translation TranslateError → List ℕ → List ℕ → List ℕ
+filled (Ok t) values old = values ++ drop (length values) old
+filled (Err e) values old = old
 
 abbrev pub tick_list : Schedule → List ℕ
 tick_list sch = map (λ (x : Timed). x.tick) sch.list
@@ -52,16 +53,25 @@ word_list sch = map (λ (x : Timed). x.word) sch.list
 abbrev pub words_in : Words → List ℕ
 words_in ws = take ws.count ws.list
 
--- The refusal's number of document 01, 0 for none, and its byte place.
-abbrev pub translated_number : Translated → ℕ
-translated_number (Done n e) = 0
-translated_number (Refused n p) = n
-translated_number (Short n) = 10
+-- The refusal table's number of an error, and its byte place.
+abbrev pub translate_error_number : TranslateError → ℕ
+translate_error_number TranslateError.StateUnfit = 1
+translate_error_number (TranslateError.Plan r) = refusal_number r
+translate_error_number (TranslateError.Short n) = 10
 
-abbrev pub translated_place : Translated → ℕ
-translated_place (Done n e) = 0
-translated_place (Refused n p) = p
-translated_place (Short n) = 0
+abbrev pub translate_error_place : TranslateError → ℕ
+translate_error_place TranslateError.StateUnfit = 0
+translate_error_place (TranslateError.Plan r) = r.place
+translate_error_place (TranslateError.Short n) = 0
+
+-- The refusal's number of document 01, 0 for none, and its byte place.
+abbrev pub translated_number : Result Translation TranslateError → ℕ
+translated_number (Ok t) = 0
+translated_number (Err e) = translate_error_number e
+
+abbrev pub translated_place : Result Translation TranslateError → ℕ
+translated_place (Ok t) = 0
+translated_place (Err e) = translate_error_place e
 
 -- The same from the state, the plan and the buffers' lengths themselves, in order of checks; the place of 1 and 10 is 0.
 unfoldable pub translation_number : Head → List ℕ → ℕ → ℕ → ℕ

@@ -1,5 +1,5 @@
 // The clock of a translation.
-ghost use Rattle.std.specs.Prelude.{◌≡◌, true, max, length};
+ghost use Rattle.std.specs.Prelude.{◌≡◌, true, length};
 ghost use Rattle.orders.specs.Codes.{fit};
 ghost use Rattle.orders.specs.Words.{words_of, items_of};
 ghost use Rattle.schedule.specs.Clock.{clock_of, clock_through, first_tick, length_at, set_by, Near, early};
@@ -15,7 +15,7 @@ use orders::order::Order;
 const COS_L_PLACE: u32 = 3;
 
 // The tick at which it stands, the ticks at which the mirror and the cover are at rest, and the settings that give the length of an
-// acquisition.
+// acquisition. These five are the parameters of head's `acquisition_ticks`; a struct of them here would still be taken apart for it.
 #[derive(Clone, Copy)]
 pub struct Clock {
     pub now: u32,
@@ -26,12 +26,6 @@ pub struct Clock {
     pub irexpo: u16,
     pub ccddelay: u16,
     pub ccdexpo: u16,
-}
-
-fn later(a: u32, b: u32) -> u32
-    ensures { result ≡ max a b }
-{
-    if a < b { b } else { a }
 }
 
 impl Clock {
@@ -56,10 +50,10 @@ impl Clock {
         ensures { result ≡ first_tick self code }
     {
         if code == EXPOSE {
-            return later(self.now, later(self.mirror, self.cover));
+            return self.now.max(self.mirror.max(self.cover));
         }
         if code == COVER {
-            return later(self.now, self.cover);
+            return self.now.max(self.cover);
         }
         self.now
     }

@@ -2,49 +2,60 @@
 #![tactic(auto)]
 
 ghost use Rattle.std.specs.Prelude.{◌≡◌};
-ghost use Rattle.schedule.specs.Translate.{translated_number, translated_place};
+ghost use Rattle.schedule.specs.Translate.{translate_error_number, translate_error_place};
+ghost use Rattle.schedule.specs.declared.TranslateError.{TranslateError};
+
+use plan::stored::Refusal;
 
 pub mod clock;
 pub mod put;
 pub mod translate;
 
-// What translating a plan answers.
-#[derive(Clone, Copy)]
-pub enum Translated {
-    // The number of words, and the tick at which the plan ends.
-    Done { count: usize, end: u32 },
-    // The number of document 01's refusal table, and the byte place.
-    Refused { number: u8, place: usize },
-    // Refusal 10: a buffer is shorter than the number of words, which is given.
+// What a translation made: the number of words, and the tick at which the plan ends.
+#[derive(Clone, Copy, Debug, PartialEq, Eq)]
+pub struct Translation {
+    pub count: usize,
+    pub end: u32,
+}
+
+// Why a plan is not translated.
+#[derive(Clone, Copy, Debug, PartialEq, Eq)]
+pub enum TranslateError {
+    // The head's state is out of range, busy, or moving.
+    StateUnfit,
+    // The plan's own refusal.
+    Plan(Refusal),
+    // A buffer is shorter than the number of words, which is given.
     Short { count: usize },
 }
 
-// The numbers of document 01's refusal table that are not the plan's own: a state that is out of range, busy or moving; a buffer that is
-// shorter than the count.
-pub const STATE_UNFIT: u8 = 1;
-
-pub const BUFFER_SHORT: u8 = 10;
-
-impl Translated {
-    // The refusal's number, 0 for none.
+impl TranslateError {
+    // The number of document 01's refusal table.
     pub fn number(self) -> u8
-        ensures { result ≡ translated_number self }
+        ensures { result ≡ translate_error_number self }
     {
         match self {
-            Translated::Done { count: _, end: _ } => 0,
-            Translated::Refused { number, place: _ } => number,
-            Translated::Short { count: _ } => BUFFER_SHORT,
+            TranslateError::StateUnfit => 1,
+            TranslateError::Plan(refusal) => refusal.number(),
+            TranslateError::Short { count: _ } => 10,
         }
     }
 
-    // The refusal's byte place, 0 for none.
+    // The byte place, 0 where the plan is not what is wrong.
     pub fn place(self) -> usize
-        ensures { result ≡ translated_place self }
+        ensures { result ≡ translate_error_place self }
     {
         match self {
-            Translated::Done { count: _, end: _ } => 0,
-            Translated::Refused { number: _, place } => place,
-            Translated::Short { count: _ } => 0,
+            TranslateError::Plan(refusal) => refusal.place,
+            _ => 0,
         }
+    }
+}
+
+impl From<Refusal> for TranslateError {
+    ghost from_gives = { λ refusal error. error ≡ TranslateError.Plan refusal };
+
+    fn from(refusal: Refusal) -> TranslateError {
+        TranslateError::Plan(refusal)
     }
 }

@@ -1,5 +1,5 @@
 // The words of orders laid into two lists, each with its tick.
-ghost use Rattle.std.specs.Prelude.{◌≡◌, true, [], ◌∷◌, ◌+◌, ◌≤◌, ◌<◌, length, set};
+ghost use Rattle.std.specs.Prelude.{◌≡◌, true, ◌+◌, ◌≤◌, length};
 ghost use Rattle.std.proofs.lemmas.List.Edits.{sets};
 ghost use Rattle.orders.specs.Codes.{fit};
 ghost use Rattle.orders.specs.Words.{words_of, items_of};
@@ -18,34 +18,10 @@ pub struct Placed {
     pub next: usize,
 }
 
-// A word and its tick at a place.
-fn put_word(words: &mut [u16], ticks: &mut [u32], at: usize, word: u16, tick: u32)
-    requires fact_1 { at < length words.old }
-    requires fact_2 { at < length ticks.old }
-    ensures words_after { words.new ≡ set words.old at word }
-    ensures ticks_after { ticks.new ≡ set ticks.old at tick }
-{
-    words[at] = word;
-    ticks[at] = tick;
-}
-
-// Two words from a place on, the second one tick after the first.
-fn put_two(words: &mut [u16], ticks: &mut [u32], at: usize, tick: u32, first: u16, second: u16)
-    requires fact_1 { at + 2 ≤ length words.old }
-    requires fact_2 { at + 2 ≤ length ticks.old }
-    requires fact_3 { tick ≤ latest }
-    ensures words_after { words.new ≡ sets words.old at (first ∷ second ∷ []) }
-    ensures ticks_after { ticks.new ≡ sets ticks.old at (up_from tick 2) }
-{
-    put_word(words, ticks, at, first, tick);
-    put_word(words, ticks, at + 1, second, tick + 1);
-}
-
-// The words of an order from a place on: the first at this tick, each other one tick later. An order has none, one, two or four.
+// The words of an order from a place on: the first at this tick, each other one tick later.
 fn put_words(words: &mut [u16], ticks: &mut [u32], from: usize, tick: u32, sent: Words)
-    requires count_bound_1 { sent.count ≤ 4 }
-    requires count_bound_2 { (sent.count ≡ 3 → ⊥) }
-    requires count_bound_3 { tick + 2 ≤ latest }
+    requires count_bound { sent.count ≤ 4 }
+    requires tick_bound { tick + 2 ≤ latest }
     requires count_in_bounds_1 { from + sent.count ≤ length words.old }
     requires count_in_bounds_2 { from + sent.count ≤ length ticks.old }
     ensures words_after { words.new ≡ sets words.old from (words_in sent) }
@@ -53,19 +29,10 @@ fn put_words(words: &mut [u16], ticks: &mut [u32], from: usize, tick: u32, sent:
 {
     let count = sent.count;
     let list = sent.list;
-    if count == 0 {
-        return;
+    words[from..from + count].copy_from_slice(&list[..count]);
+    for i in 0..count {
+        ticks[from + i] = tick + i as u32;
     }
-    if count == 1 {
-        put_word(words, ticks, from, list[0], tick);
-        return;
-    }
-    if count == 2 {
-        put_two(words, ticks, from, tick, list[0], list[1]);
-        return;
-    }
-    put_two(words, ticks, from, tick, list[0], list[1]);
-    put_two(words, ticks, from + 2, tick + 2, list[2], list[3]);
 }
 
 // The words of an order that fits, from a place on; a wait has none and advances the clock.

@@ -32,9 +32,6 @@ overflow_add-clock c =
     let more : at.i < a.count = omega arith in
     omega (arith, running-before at.invariant more, c.ranges.end)
 
-pub overflow_add-i : goal.overflow_add-i
-overflow_add-i c = omega (arith, c.loop-i-test.true, c.ranges.count)
-
 pub loop-i-preserved : goal.loop-i-preserved
 loop-i-preserved c =
     let a = c.args in
@@ -48,12 +45,6 @@ overflow_sub-end c =
     let a = c.args in
     let at = c.loop-i in
     omega (arith, running-ends at.invariant)
-
-pub shape_of-rows : goal.shape_of-rows
-shape_of-rows c = c.lay.auto.rows ∙ c.loop-i.invariant.long_rows
-
-pub shape_of-times : goal.shape_of-times
-shape_of-times c = c.loop-i.invariant.long_times
 
 pub returns : goal.returns
 unfolding end_row

@@ -1,8 +1,7 @@
 -- `schedule::put::put_order` meets its contract.
-use mathlib.Core.Path.{sym, ◌∙◌}
 use native.Mathlib.Omega.{arith}
 use Rattle.schedule.proofs.OrderClocked.{first-near, ticks-are}
-use Rattle.schedule.proofs.OrderLaid.{fit-few, given-words, given-count, fit-not-three}
+use Rattle.schedule.proofs.OrderLaid.{fit-few, given-words, given-count}
 use Rattle.schedule.proofs.put.put_order.Goals as goal
 
 pub put_words-requires : goal.put_words-requires
@@ -13,9 +12,8 @@ put_words-requires c =
     let few = fit-few c.args.order c.requires.order_value_1 in
     let near = first-near c.args.clock c.requires.order_value_2 c.args.order.code tick.result tick.ensures in
     record {
-      count_bound_1 = omega arith;
-      count_bound_2 = λ e. fit-not-three c.args.order c.requires.order_value_1 (sym count ∙ e);
-      count_bound_3 = omega arith;
+      count_bound = omega arith;
+      tick_bound = omega arith;
       count_in_bounds_1 = omega arith;
       count_in_bounds_2 = omega arith;
     }

@@ -5,11 +5,11 @@ use Rattle.schedule.proofs.clock.Clock.first_tick.Goals as goal
 
 pub returns-then-code-eq-EXPOSE : goal.returns-then-code-eq-EXPOSE
 unfolding first_tick tick_for
-returns-then-code-eq-EXPOSE c = rw (c.if-code-eq-EXPOSE.true, c.later-then-code-eq-EXPOSE.ensures, c.later.ensures)
+returns-then-code-eq-EXPOSE c = rw (c.if-code-eq-EXPOSE.true, c.max-then-code-eq-EXPOSE.ensures, c.max.ensures)
 
 pub returns-then-code-eq-COVER : goal.returns-then-code-eq-COVER
 unfolding first_tick tick_for
-returns-then-code-eq-COVER c = rw (c.if-code-eq-COVER.true, c.later-then-code-eq-COVER.ensures)
+returns-then-code-eq-COVER c = rw (c.if-code-eq-COVER.true, c.max-then-code-eq-COVER.ensures)
 
 pub returns : goal.returns
 unfolding first_tick tick_for

@@ -14,17 +14,19 @@ use Rattle.plan.proofs.Laid.{sets-front}
 use Rattle.plan.proofs.Recorded.{record-front}
 use Rattle.schedule.specs.Schedule.{Schedule, Rising}
 use Rattle.schedule.specs.Translate.{schedule_of, filled, tick_list, word_list, translated_number, translated_place, translation_number, translation_place}
-use Rattle.schedule.specs.declared.Translated.{Translated}
+use Rattle.std.specs.Prelude.{Result, Ok, Err}
+use Rattle.schedule.specs.declared.Translation.{Translation}
+use Rattle.schedule.specs.declared.TranslateError.{TranslateError}
 use Rattle.schedule.proofs.Translating.{Told}
 use Rattle.schedule.proofs.Numbered.{Promised, told}
 use Rattle.run.specs.Run.{moments_of, head_after, log_of, times_of}
 use Rattle.run.specs.Rehearse.{rehearsed_by, rehearse_of, translation_of, buffered, run_of, run_record, run_times, Fulfilled, rehearsed_number, rehearsed_place}
-use Rattle.run.specs.declared.Rehearsed.{Rehearsed}
+use Rattle.run.specs.declared.Rehearsal.{Rehearsal}
 use Rattle.run.proofs.Quiet.{times_long}
 use Rattle.run.proofs.Accepted.{room-words, room-ticks, translated-list, translated-end, translated-acts, translated-rising, translated-demands}
 
 -- the promises of `rehearse`, for an answer and the buffers as they came back
-abbrev pub Answers : Head → List ℕ → List ℕ → List ℕ → List ℕ → List ℕ → Rehearsed → List ℕ → List ℕ → List ℕ → List ℕ → Type 0
+abbrev pub Answers : Head → List ℕ → List ℕ → List ℕ → List ℕ → List ℕ → Result Rehearsal TranslateError → List ℕ → List ℕ → List ℕ → List ℕ → Type 0
 Answers s bs W T R A r W' T' R' A' =
     let sch = schedule_of s (plan_of bs) in
     (r ≡ rehearse_of s bs (length W) (length T))
@@ -35,21 +37,17 @@ Answers s bs W T R A r W' T' R' A' =
     × (Fulfilled s bs W' T' r
     × ((rehearsed_number r ≡ translation_number s bs (length W) (length T)) × (rehearsed_place r ≡ translation_place s bs)))))))
 
-module _ (s : Head) (bs W T R A : List ℕ) {W' T' : List ℕ} {r : Translated} (given : Promised s bs W T r W' T') where
-  pub way-refused : {n p : ℕ} → r ≡ Translated.Refused n p → Answers s bs W T R A (Rehearsed.Refused n p) W' T' R A
+module _ (s : Head) (bs W T R A : List ℕ) {W' T' : List ℕ} {r : Result Translation TranslateError} (given : Promised s bs W T r W' T') where
+  pub way-refused : {r' : Result Rehearsal TranslateError} {f : TranslateError} → r' ≡ Err f → r ≡ Err f → Answers s bs W T R A r' W' T' R A
   unfolding rehearse_of rehearsed_by filled Fulfilled
-  way-refused is = let t = rw is at given in (rw (← t.0) refl, (t.1.0, (t.1.1.0, (refl, (refl, (tt, t.1.1.1))))))
+  way-refused answer is = let t = rw is at given in rw answer (rw (← t.0) refl, (t.1.0, (t.1.1.0, (refl, (refl, (tt, t.1.1.1))))))
 
-  pub way-short : {n : ℕ} → r ≡ Translated.Short n → Answers s bs W T R A (Rehearsed.Short n) W' T' R A
-  unfolding rehearse_of rehearsed_by filled Fulfilled
-  way-short is = let t = rw is at given in (rw (← t.0) refl, (t.1.0, (t.1.1.0, (refl, (refl, (tt, t.1.1.1))))))
-
-  module _ {n e : ℕ} (is : r ≡ Translated.Done n e) where
-    done : Told s bs W T (Translated.Done n e) W' T'
+  module _ {n e : ℕ} (is : r ≡ Ok (record { count = n; end = e })) where
+    done : Told s bs W T (Ok (record { count = n; end = e })) W' T'
     done = rw is at (told s bs W T given)
 
-    numbers : (translated_number (Translated.Done n e) ≡ translation_number s bs (length W) (length T))
-        × (translated_place (Translated.Done n e) ≡ translation_place s bs)
+    numbers : (translated_number (Ok (record { count = n; end = e })) ≡ translation_number s bs (length W) (length T))
+        × (translated_place (Ok (record { count = n; end = e })) ≡ translation_place s bs)
     numbers = rw is at given.1.1.1
 
     pub way-words : n ≤ length W'
@@ -74,36 +72,36 @@ module _ (s : Head) (bs W T R A : List ℕ) {W' T' : List ℕ} {r : Translated} 
 
     -- the run's record and ticks have room
     way-rows : {R' : List ℕ} → length R ≡ 1365 → R' ≡ sets R 0 (run_record s (buffered n e T' W'))
-        → R' ≡ filled (Translated.Done n e) (run_record s (schedule_of s (plan_of bs))) R
+        → R' ≡ filled (Ok (record { count = n; end = e })) (run_record s (schedule_of s (plan_of bs))) R
     unfolding filled at_front run_record
     way-rows long laid =
         let sch = buffered n e T' W' in
         laid
         ∙ record-front (log_of (run_of s sch)) (head_after e 0 sch.list s).settings R (omega (arith, way-acts))
-        ∙ ap (λ (x : Schedule). filled (Translated.Done n e) (run_record s x) R) same
+        ∙ ap (λ (x : Schedule). filled (Ok (record { count = n; end = e })) (run_record s x) R) same
 
     way-times : {A' : List ℕ} → length A ≡ 64 → A' ≡ sets A 0 (run_times s (buffered n e T' W'))
-        → A' ≡ filled (Translated.Done n e) (run_times s (schedule_of s (plan_of bs))) A
+        → A' ≡ filled (Ok (record { count = n; end = e })) (run_times s (schedule_of s (plan_of bs))) A
     unfolding filled run_times
     way-times long laid =
         let ms = run_of s (buffered n e T' W') in
         laid
         ∙ sets-front (times_of 0 ms) A (omega (arith, times_long 0 ms, way-acts))
-        ∙ ap (λ (x : Schedule). filled (Translated.Done n e) (run_times s x) A) same
+        ∙ ap (λ (x : Schedule). filled (Ok (record { count = n; end = e })) (run_times s x) A) same
 
     module _ (long_rows : length R ≡ 1365) (long_times : length A ≡ 64) where
       pub way-done : {h : Head} {a : ℕ} {R' A' : List ℕ}
           → (h ≡ head_after e 0 (buffered n e T' W').list s)
           × ((a ≡ length (log_of (run_of s (buffered n e T' W'))))
           × ((R' ≡ sets R 0 (run_record s (buffered n e T' W'))) × (A' ≡ sets A 0 (run_times s (buffered n e T' W')))))
-          → Answers s bs W T R A (Rehearsed.Done h n e a) W' T' R' A'
+          → Answers s bs W T R A (Ok (record { head = h; count = n; end = e; acts = a })) W' T' R' A'
       unfolding rehearse_of rehearsed_by Fulfilled
       way-done {a = a} ran =
           let sch = schedule_of s (plan_of bs) in
           let head = ran.0 ∙ ap (λ (x : Schedule). head_after e 0 x.list s) same in
           let acts = ran.1.0 ∙ ap (λ (x : Schedule). length (log_of (moments_of e 0 x.list s))) same in (
-            ap (λ (x : Head). Rehearsed.Done x n e a) head
-                ∙ ap (λ (k : ℕ). Rehearsed.Done (head_after e 0 sch.list s) n e k) acts
+            ap (λ (x : Head). Ok (record { head = x; count = n; end = e; acts = a })) head
+                ∙ ap (λ (k : ℕ). Ok (record { head = head_after e 0 sch.list s; count = n; end = e; acts = k })) acts
                 ∙ ap (rehearsed_by s sch) done.0,
             (
               done.1.0,
@@ -121,7 +119,7 @@ module _ (s : Head) (bs W T R A : List ℕ) {W' T' : List ℕ} {r : Translated} 
           )
 
 -- where `rehearse` answers a head, its settings are those that the plan, read without any words, says
-pub rehearsed-settings : (s : Head) (bs W' T' : List ℕ) (h : Head) (n e a : ℕ) → Fulfilled s bs W' T' (Rehearsed.Done h n e a)
-    → h.settings ≡ settings_read s.settings (orders_in (plan_of bs))
+pub rehearsed-settings : (s : Head) (bs W' T' : List ℕ) (r : Rehearsal) → Fulfilled s bs W' T' (Ok r)
+    → r.head.settings ≡ settings_read s.settings (orders_in (plan_of bs))
 unfolding Fulfilled
-rehearsed-settings s bs W' T' h n e a f = ap (λ (x : Head). x.settings) f.0 ∙ f.1.run.settings
+rehearsed-settings s bs W' T' r f = ap (λ (x : Head). x.settings) f.0 ∙ f.1.run.settings
