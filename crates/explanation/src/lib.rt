@@ -3,21 +3,21 @@
 
 ghost use Rattle.std.specs.Prelude.{◌≡◌, ◌++◌};
 ghost use Rattle.layout.specs.Numbers.{hex_of};
-ghost use Rattle.layout.specs.Written.{Written};
+ghost use Rattle.layout.specs.Adds.{Adds};
 ghost use Rattle.explanation.specs.Explanation.{seconds_width, wait_text, unknown_text, range_text, turn_text, explanation_text};
 
 use diagnosis::Diagnosis;
-use layout::bytes::{put_byte, put_bytes};
 use layout::numbers::{bit, hex4};
-use layout::template::put_template;
+use layout::writer::Writer;
 use names::kind::put_name;
 
-// What the word has to wait for.
+// What the word has to wait for: a number, by which the template chooses.
 const HEAD: u64 = 0;
 
 const COVER: u64 = 1;
 
 // Which field has just as many columns as the seconds of these ticks.
+#[tactic(auto, unfolding(crate::specs::Explanation::seconds_width))]
 fn seconds_width(ticks: u16) -> u64
     ensures { result ≡ seconds_width ticks }
 {
@@ -30,63 +30,63 @@ fn seconds_width(ticks: u16) -> u64
     2
 }
 
-fn put_wait(out: &mut [u8], at: usize, what: u64, ticks: u16) -> usize
-    ensures { Written out.old at (wait_text what ticks) result out.new }
+#[tactic(auto, unfolding(layout::specs::Numbers::ascii, crate::specs::Explanation::wait_text, crate::specs::Explanation::wait_template))]
+fn put_wait(writer: &mut Writer<'_>, what: u64, ticks: u16)
+    ensures { Adds writer.old writer.new (wait_text what ticks) }
 {
     let n = ticks as u64;
     let values = [what, n, bit(ticks == 1), seconds_width(ticks), n, what];
-    put_template(
-        out,
-        at,
+    writer.put_template(
         b"{the head is busy|the cover moves}: @@@@@ tick{s|} left, {%%%%|%%%%%|%%%%%%} s; {only STOP|no COVER} is taken\n",
         &values,
         &[],
-    )
+    );
 }
 
 // A word after what is said of it.
-fn put_word(out: &mut [u8], at: usize, before: &[u8], word: u16) -> usize
-    ensures { Written out.old at (before.now ++ hex_of word) result out.new }
+fn put_word(writer: &mut Writer<'_>, before: &[u8], word: u16)
+    ensures { Adds writer.old writer.new (before.now ++ hex_of word) }
 {
-    let digits = put_bytes(out, at, before);
-    put_bytes(out, digits, &hex4(word))
+    writer.put_bytes(before);
+    writer.put_bytes(&hex4(word));
 }
 
-fn put_unknown(out: &mut [u8], at: usize, word: u16) -> usize
-    ensures { Written out.old at (unknown_text word) result out.new }
+fn put_unknown(writer: &mut Writer<'_>, word: u16)
+    ensures { Adds writer.old writer.new (unknown_text word) }
 {
-    let end = put_word(out, at, b"no kind has the identifier of word ", word);
-    put_byte(out, end, b'\n')
+    put_word(writer, b"no kind has the identifier of word ", word);
+    writer.put_byte(b'\n');
 }
 
-fn put_out_of_range(out: &mut [u8], at: usize, word: u16, kind: u8) -> usize
-    ensures { Written out.old at (range_text word kind) result out.new }
+fn put_out_of_range(writer: &mut Writer<'_>, word: u16, kind: u8)
+    ensures { Adds writer.old writer.new (range_text word kind) }
 {
-    let range = put_word(out, at, b"the data of word ", word);
-    let name = put_bytes(out, range, b" are out of the range of ");
-    let end = put_name(out, name, kind);
-    put_byte(out, end, b'\n')
+    put_word(writer, b"the data of word ", word);
+    writer.put_bytes(b" are out of the range of ");
+    put_name(writer, kind);
+    writer.put_byte(b'\n');
 }
 
-fn put_out_of_turn(out: &mut [u8], at: usize, due: u8) -> usize
-    ensures { Written out.old at (turn_text due) result out.new }
+fn put_out_of_turn(writer: &mut Writer<'_>, due: u8)
+    ensures { Adds writer.old writer.new (turn_text due) }
 {
-    let name = put_bytes(out, at, b"a mirror word out of turn: ");
-    let end = put_name(out, name, due);
-    put_bytes(out, end, b" was due\n")
+    writer.put_bytes(b"a mirror word out of turn: ");
+    put_name(writer, due);
+    writer.put_bytes(b" was due\n");
 }
 
 // The line of a diagnosis.
-pub fn put_explanation(out: &mut [u8], at: usize, diagnosis: Diagnosis) -> usize
-    ensures { Written out.old at (explanation_text diagnosis) result out.new }
+#[tactic(auto, unfolding(layout::specs::Numbers::ascii, crate::specs::Explanation::explanation_text))]
+pub fn put_explanation(writer: &mut Writer<'_>, diagnosis: Diagnosis)
+    ensures { Adds writer.old writer.new (explanation_text diagnosis) }
 {
     match diagnosis {
-        Diagnosis::Taken => put_bytes(out, at, b"taken\n"),
-        Diagnosis::StateOutOfRange => put_bytes(out, at, b"the state is out of range\n"),
-        Diagnosis::HeadBusy(ticks) => put_wait(out, at, HEAD, ticks),
-        Diagnosis::CoverMoves(ticks) => put_wait(out, at, COVER, ticks),
-        Diagnosis::UnknownIdentifier(word) => put_unknown(out, at, word),
-        Diagnosis::DataOutOfRange { word, kind } => put_out_of_range(out, at, word, kind),
-        Diagnosis::OutOfTurn { due } => put_out_of_turn(out, at, due),
+        Diagnosis::Taken => writer.put_bytes(b"taken\n"),
+        Diagnosis::StateOutOfRange => writer.put_bytes(b"the state is out of range\n"),
+        Diagnosis::HeadBusy(ticks) => put_wait(writer, HEAD, ticks),
+        Diagnosis::CoverMoves(ticks) => put_wait(writer, COVER, ticks),
+        Diagnosis::UnknownIdentifier(word) => put_unknown(writer, word),
+        Diagnosis::DataOutOfRange { word, kind } => put_out_of_range(writer, word, kind),
+        Diagnosis::OutOfTurn { due } => put_out_of_turn(writer, due),
     }
 }

@@ -2,30 +2,31 @@
 -- Assumes nothing.
 use mathlib.Core.Path.{◌≡◌}
 use mathlib.Core.List.{List}
-use Prim.Native.Nat.{ℕ, zero, suc, ◌+◌, ◌*◌, ◌≤◌, ◌<◌, min}
+use Prim.Native.Nat.{ℕ, zero, suc, ◌+◌, ◌*◌, ◌≤◌, ◌<◌}
 use native.Mathlib.Nat.{suc-mul}
 use native.Mathlib.Numerals.{add-one}
 use native.Mathlib.Omega.{arith}
 use lib.ListN.{length, length-append}
 use Rattle.layout.specs.Below.{texts_below}
-use Rattle.layout.specs.Written.{Written}
-use Rattle.layout.proofs.Writing.{written_then, written_none}
+use Rattle.layout.specs.Adds.{Adds}
+use Rattle.layout.specs.declared.writer.Writer.{Writer}
+use Rattle.layout.proofs.Adding.{adds_then, adds_none}
 
--- those below n, of so many, are written
-pub record TextsWritten (text : ℕ → List ℕ) (all : ℕ) (old : List ℕ) (at : ℕ) (new : List ℕ) (place n : ℕ) : Type 0 where
+-- those below n, of so many, are added
+pub record TextsAdded (text : ℕ → List ℕ) (all : ℕ) (old new : Writer) (n : ℕ) : Type 0 where
   pub few : n ≤ all
-  pub part : Written old at (texts_below text n) place new
+  pub part : Adds old new (texts_below text n)
 
-pub texts-first : {text : ℕ → List ℕ} {all : ℕ} {old : List ℕ} {at place : ℕ} → place ≡ min at (length old) → TextsWritten text all old at old place 0
+pub texts-first : {text : ℕ → List ℕ} {all : ℕ} {w : Writer} → TextsAdded text all w w 0
 unfolding texts_below
-texts-first h = record { few = omega arith; part = written_none h }
+texts-first {w = w} = record { few = omega arith; part = adds_none w }
 
-module _ {text : ℕ → List ℕ} {all : ℕ} {old : List ℕ} {at : ℕ} {new : List ℕ} {place n : ℕ} (h : TextsWritten text all old at new place n) where
-  pub texts-next : n < all → {place' : ℕ} {new' : List ℕ} → Written new place (text n) place' new' → TextsWritten text all old at new' place' (n + 1)
+module _ {text : ℕ → List ℕ} {all : ℕ} {old new : Writer} {n : ℕ} (h : TextsAdded text all old new n) where
+  pub texts-next : n < all → {new' : Writer} → Adds new new' (text n) → TextsAdded text all old new' (n + 1)
   unfolding texts_below
-  texts-next more w = record { few = omega arith; part = rw (add-one n) (written_then h.part w) }
+  texts-next more w = record { few = omega arith; part = rw (add-one n) (adds_then h.part w) }
 
-  pub texts-done : all ≤ n → Written old at (texts_below text all) place new
+  pub texts-done : all ≤ n → Adds old new (texts_below text all)
   texts-done past = let e : n ≡ all = let few = h.few in omega arith in rw e at h.part
 
 -- texts that are all of one length

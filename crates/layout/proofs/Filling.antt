@@ -3,7 +3,7 @@
 use mathlib.Core.Path.{◌≡◌, refl, ap, ◌∙◌}
 use mathlib.Core.Bool.{Bool, true, false}
 use mathlib.Core.List.{List, ◌∷◌}
-use Prim.Native.Nat.{ℕ, ◌+◌, ◌≤◌, ◌<◌, min}
+use Prim.Native.Nat.{ℕ, ◌+◌, ◌≤◌, ◌<◌}
 use Prim.Native.Char.{code}
 use native.Mathlib.Nat.{add-zero}
 use native.Mathlib.Numerals.{add-one}
@@ -11,10 +11,11 @@ use native.Mathlib.Omega.{arith}
 use lib.Dec.{eqb}
 use lib.ListN.{length, get_or, drop, drop_of_length-le}
 use lib.Seq.{drop-cons, get_or-drop}
-use Rattle.layout.specs.Written.{Written}
+use Rattle.layout.specs.Adds.{Adds}
+use Rattle.layout.specs.declared.writer.Writer.{Writer}
 use Rattle.layout.specs.Template.{is_mark, moved, piece, layout_from, layout, start}
 use Rattle.layout.specs.declared.template.Cursor.{Cursor}
-use Rattle.layout.proofs.Writing.{Partly, partly-first, partly-next, partly-done}
+use Rattle.layout.proofs.Adding.{Partly, partly-first, partly-next, partly-done}
 
 -- how far a cursor can have come after so many bytes
 pub record Near (k : Cursor) (i : ℕ) : Type 0 where
@@ -47,47 +48,44 @@ near-moved k c n v i h =
         rw (a, b, d, e, f, g) (record { bars = omega arith; width = omega arith; value = omega arith })
 
 -- the template from its ith byte on is left
-pub record Filling (old : List ℕ) (at : ℕ) (template values before new : List ℕ) (place : ℕ) (k : Cursor) (i : ℕ) : Type 0 where
+pub record Filling (old : Writer) (template values before : List ℕ) (new : Writer) (k : Cursor) (i : ℕ) : Type 0 where
   pub few : i ≤ length template
   pub near : Near k i
-  pub part : Partly old at (layout template values before) (layout_from k (drop i template) values before) new place
+  pub part : Partly old (layout template values before) (layout_from k (drop i template) values before) new
 
-pub filling-first : {old : List ℕ} {at : ℕ} {template values before : List ℕ} {place : ℕ} → place ≡ min at (length old)
-    → Filling old at template values before old place start 0
+pub filling-first : {w : Writer} {template values before : List ℕ} → Filling w template values before w start 0
 unfolding layout
-filling-first h =
+filling-first =
     record {
       few = omega arith;
       near = record { bars = omega arith; width = omega arith; value = omega arith };
-      part = partly-first h;
+      part = partly-first;
     }
 
-module _ {old : List ℕ} {at : ℕ} {template values before new : List ℕ} {place : ℕ} where
-  module _ {k : Cursor} {i : ℕ} (h : Filling old at template values before new place k i) where
-    module _ (more : i < length template) where
-      next-byte : get_or (drop (i + 1) template) 0 0 ≡ get_or template (i + 1) 0
-      next-byte = get_or-drop (i + 1) template 0 0 ∙ rw (add-zero (i + 1))
+module _ {old : Writer} {template values before : List ℕ} {new : Writer} {k : Cursor} {i : ℕ} (h : Filling old template values before new k i) where
+  module _ (more : i < length template) where
+    next-byte : get_or (drop (i + 1) template) 0 0 ≡ get_or template (i + 1) 0
+    next-byte = get_or-drop (i + 1) template 0 0 ∙ rw (add-zero (i + 1))
 
-      pub filling-next : {c n v b : ℕ} → c ≡ get_or template i 0 → n ≡ get_or template (i + 1) 0 → v ≡ get_or values k.value 0 → b ≡ get_or before k.value 0
-          → {new' : List ℕ} {place' : ℕ} → Written new place (piece k c n v b) place' new'
-          → {k' : Cursor} → k' ≡ moved k c n v
-          → Filling old at template values before new' place' k' (i + 1)
-      unfolding layout_from
-      filling-next {c} {n} {v} {b} ec en ev eb w ek =
-          let is : drop i template ≡ c ∷ drop (i + 1) template = drop-cons template i 0 more ∙ rw (ec, add-one i) in
-          rw ek
-          (record {
-            few = omega arith;
-            near = near-moved k c n v i h.near;
-            part =
-                partly-next h.part (ap (λ (l : List ℕ). layout_from k l values before) is ∙ rw (next-byte, ← en, ← ev, ← eb)) w;
-          })
-
-    pub filled : length template ≤ i → Written old at (layout template values before) place new
+    pub filling-next : {c n v b : ℕ} → c ≡ get_or template i 0 → n ≡ get_or template (i + 1) 0 → v ≡ get_or values k.value 0 → b ≡ get_or before k.value 0
+        → {new' : Writer} → Adds new new' (piece k c n v b)
+        → {k' : Cursor} → k' ≡ moved k c n v
+        → Filling old template values before new' k' (i + 1)
     unfolding layout_from
-    filled all = partly-done h.part (ap (λ (l : List ℕ). layout_from k l values before) (drop_of_length-le template all))
+    filling-next {c} {n} {v} {b} ec en ev eb w ek =
+        let is : drop i template ≡ c ∷ drop (i + 1) template = drop-cons template i 0 more ∙ rw (ec, add-one i) in
+        rw ek
+        (record {
+          few = omega arith;
+          near = near-moved k c n v i h.near;
+          part =
+              partly-next h.part (ap (λ (l : List ℕ). layout_from k l values before) is ∙ rw (next-byte, ← en, ← ev, ← eb)) w;
+        })
 
--- a template written with values by other names
-pub written-values : (t v w vs bs : List ℕ) → {l : List ℕ} {at : ℕ} {p : ℕ} {m : List ℕ} → v ≡ vs → w ≡ bs → Written l at (layout t v w) p m
-    → Written l at (layout t vs bs) p m
-written-values t v w vs bs e f h = rw (← e, ← f) h
+  pub filled : length template ≤ i → Adds old new (layout template values before)
+  unfolding layout_from
+  filled all = partly-done h.part (ap (λ (l : List ℕ). layout_from k l values before) (drop_of_length-le template all))
+
+-- a template added with values by other names
+pub adds_values : (t v w vs bs : List ℕ) → {old new : Writer} → v ≡ vs → w ≡ bs → Adds old new (layout t v w) → Adds old new (layout t vs bs)
+adds_values t v w vs bs e f h = rw (← e, ← f) h

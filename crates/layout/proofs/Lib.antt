@@ -1,11 +1,10 @@
 pub mod Overwriting
 pub mod Digits
 pub mod Writing
+pub mod Adding
 pub mod Below
 pub mod Decimals
-pub mod Values
 pub mod Copying
-pub mod Marks
 pub mod Filling
 pub mod Widths
 pub mod Alternatives

@@ -21,6 +21,17 @@ written-within h = let e = h.place in let long = written-long h in omega arith
 pub written_is : {l : List ℕ} {at : ℕ} {a b : List ℕ} {p : ℕ} {m : List ℕ} → a ≡ b → Written l at b p m → Written l at a p m
 written_is e h = rw e h
 
+-- a place past the end stands for the end
+pub written-clamped : {l : List ℕ} {at : ℕ} {a : List ℕ} {p : ℕ} {m : List ℕ} → Written l (min at (length l)) a p m → Written l at a p m
+written-clamped {l} {at} {a} {p} {m} h = go (dec_lt at (length l))
+  where
+    go : Dec (at < length l) → Written l at a p m
+    go (yes k) = let is : min at (length l) ≡ at = omega arith in rw is at h
+    go (no k) =
+        let is : min at (length l) ≡ length l = omega arith in
+        let e : Written l (length l) a p m = rw is at h in
+        record { place = let f = e.place in omega arith; bytes = e.bytes ∙ sym (sets-past a l (length l) (omega arith)) ∙ sets-past a l at (omega arith) }
+
 -- one text after another
 pub written_then : {l : List ℕ} {at : ℕ} {a : List ℕ} {p : ℕ} {m b : List ℕ} {q : ℕ} {n : List ℕ} → Written l at a p m → Written m p b q n
     → Written l at (a ++ b) q n
@@ -76,25 +87,3 @@ written-front {old} {text} {n} {new} h fits =
 -- it is what stands there
 pub front-text : {old text : List ℕ} {n : ℕ} {new : List ℕ} → Front old text n new → take n new ≡ text
 front-text {old} {text} {n} h = ap (take n) h.bytes ∙ take_at text (drop n old) n (sym h.long)
-
--- a text of which only a part is left to be written: whatever ends that part ends the whole
-pub record Partly (old : List ℕ) (at : ℕ) (whole left new : List ℕ) (place : ℕ) : Type 0 where
-  pub long : length new ≡ length old
-  pub within : place ≤ length new
-  pub ends : {q : ℕ} {n : List ℕ} → Written new place left q n → Written old at whole q n
-
-pub partly-first : {old : List ℕ} {at : ℕ} {whole : List ℕ} {place : ℕ} → place ≡ min at (length old) → Partly old at whole whole old place
-partly-first h = record { long = refl; within = omega arith; ends = λ w. written_then (written_none h) w }
-
-module _ {old : List ℕ} {at : ℕ} {whole : List ℕ} {new : List ℕ} {place : ℕ} where
-  pub partly-next : {left : List ℕ} → Partly old at whole left new place → {piece left' new' : List ℕ} {place' : ℕ} → left ≡ piece ++ left'
-      → Written new place piece place' new' → Partly old at whole left' new' place'
-  partly-next h is w =
-      record {
-        long = written-long w ∙ h.long;
-        within = written-within w;
-        ends = λ v. h.ends (rw is (written_then w v));
-      }
-
-  pub partly-done : {left : List ℕ} → Partly old at whole left new place → left ≡ [] → Written old at whole place new
-  partly-done h none = h.ends (rw none (written_none (let within = h.within in omega arith)))

@@ -5,3 +5,4 @@ pub mod bytes;
 pub mod fields;
 pub mod numbers;
 pub mod template;
+pub mod writer;

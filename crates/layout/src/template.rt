@@ -1,10 +1,10 @@
 // Lines laid out by a template: its bytes as they stand, but for marks, whose places the values take one after another.
 ghost use Rattle.std.specs.Prelude.{◌≡◌, [], ◌∷◌, ◌+◌, ◌<◌, ◌^◌, get_or};
-ghost use Rattle.layout.specs.Written.{Written};
+ghost use Rattle.layout.specs.Adds.{Adds};
 ghost use Rattle.layout.specs.Template.{is_mark, change_mark, moved, piece, layout};
 
-use crate::bytes::{put_byte, within};
-use crate::fields::{NUMBER, PLAIN, SECONDS, SINE, put_field};
+use crate::fields::{NUMBER, PLAIN, SECONDS, SINE};
+use crate::writer::Writer;
 
 // Alternatives, of which the next value chooses one, and the mark of a value that has changed.
 pub const OPEN: u8 = b'{';
@@ -27,43 +27,34 @@ pub struct Cursor {
     pub value: usize,
 }
 
-// A value; 0 past the end.
-fn value_at(values: &[u64], i: usize) -> u64
-    ensures { result ≡ get_or values.now i 0 }
-{
-    if i < values.len() { values[i] } else { 0 }
-}
-
 // A byte; 0 past the end.
 pub fn byte_at(bytes: &[u8], i: usize) -> u8
     ensures { result ≡ get_or bytes.now i 0 }
 {
-    if i < bytes.len() { bytes[i] } else { 0 }
+    bytes.get(i).copied().unwrap_or(0)
 }
 
+#[tactic(auto, unfolding(crate::specs::Template::is_mark))]
 pub fn is_mark(byte: u8) -> bool
     ensures { result ≡ is_mark byte }
 {
-    (byte == NUMBER) | (byte == PLAIN) | (byte == SINE) | (byte == SECONDS)
+    matches!(byte, NUMBER | PLAIN | SINE | SECONDS)
 }
 
 impl Cursor {
     // The cursor after a byte; the byte after it and the next value are given.
+    #[tactic(auto, unfolding(crate::specs::Template::moved))]
     fn moved(self, byte: u8, next: u8, value: u64) -> Cursor
         requires fact_1 { self.bars + 1 < 2 ^ 64 }
         requires fact_2 { self.width + 1 < 2 ^ 64 }
         requires fact_3 { self.value + 1 < 2 ^ 64 }
         ensures { result ≡ moved self byte next value }
     {
-        let chosen = self.chosen;
-        let bars = self.bars;
-        let at = self.value;
         if byte == BAR {
             return Cursor {
-                chosen,
-                bars: bars + 1,
+                bars: self.bars + 1,
                 width: 0,
-                value: at,
+                ..self
             };
         }
         if byte == CLOSE {
@@ -71,10 +62,10 @@ impl Cursor {
                 chosen: 0,
                 bars: 0,
                 width: 0,
-                value: at,
+                ..self
             };
         }
-        if bars != chosen {
+        if self.bars != self.chosen {
             return self;
         }
         if byte == OPEN {
@@ -82,7 +73,7 @@ impl Cursor {
                 chosen: value,
                 bars: 0,
                 width: 0,
-                value: at + 1,
+                value: self.value + 1,
             };
         }
         if !is_mark(byte) {
@@ -90,86 +81,70 @@ impl Cursor {
         }
         if next == byte {
             return Cursor {
-                chosen,
-                bars,
                 width: self.width + 1,
-                value: at,
+                ..self
             };
         }
         Cursor {
-            chosen,
-            bars,
             width: 0,
-            value: at + 1,
+            value: self.value + 1,
+            ..self
         }
     }
+}
 
+impl<'a> Writer<'a> {
     // What a byte of the template stands for.
-    fn put_piece(
-        self,
-        out: &mut [u8],
-        at: usize,
-        byte: u8,
-        next: u8,
-        value: u64,
-        before: u64,
-    ) -> usize
-        requires { self.width + 1 < 2 ^ 64 }
-        ensures { Written out.old at (piece self byte next value before) result out.new }
+    #[tactic(auto, using(crate::proofs::Adding::adds_none), unfolding(crate::specs::Template::piece))]
+    fn put_piece(&mut self, cursor: Cursor, byte: u8, next: u8, value: u64, before: u64)
+        requires { cursor.width + 1 < 2 ^ 64 }
+        ensures { Adds self.old self.new (piece cursor byte next value before) }
     {
         let closing = (byte == BAR) | (byte == CLOSE);
-        let silent = closing | (byte == OPEN) | (self.bars != self.chosen);
+        let silent = closing | (byte == OPEN) | (cursor.bars != cursor.chosen);
         if silent {
-            return within(at, out.len());
+            return;
         }
         if byte == CHANGED {
-            return put_changed(out, at, value == before);
+            self.put_changed(value == before);
+            return;
         }
         if !is_mark(byte) {
-            return put_byte(out, at, byte);
+            self.put_byte(byte);
+            return;
         }
         if next == byte {
-            return within(at, out.len());
+            return;
         }
-        put_field(out, at, byte, self.width + 1, value)
+        self.put_field(byte, cursor.width + 1, value);
     }
-}
 
-fn put_changed(out: &mut [u8], at: usize, same: bool) -> usize
-    ensures { Written out.old at (change_mark same ∷ []) result out.new }
-{
-    if same {
-        return put_byte(out, at, b' ');
+    fn put_changed(&mut self, same: bool)
+        ensures { Adds self.old self.new (change_mark same ∷ []) }
+    {
+        if same {
+            self.put_byte(b' ');
+            return;
+        }
+        self.put_byte(b'*');
     }
-    put_byte(out, at, b'*')
-}
 
-// The text of a template with these values; what they were before is asked where the template marks changes.
-pub fn put_template(
-    out: &mut [u8],
-    at: usize,
-    template: &[u8],
-    values: &[u64],
-    before: &[u64],
-) -> usize
-    ensures { Written out.old at (layout template.now values.now before.now) result out.new }
-{
-    let mut place = within(at, out.len());
-    let mut cursor = Cursor {
-        chosen: 0,
-        bars: 0,
-        width: 0,
-        value: 0,
-    };
-    let mut i: usize = 0;
-    while i < template.len() {
-        let byte = template[i];
-        let next = byte_at(template, i + 1);
-        let value = value_at(values, cursor.value);
-        let was = value_at(before, cursor.value);
-        place = cursor.put_piece(out, place, byte, next, value, was);
-        cursor = cursor.moved(byte, next, value);
-        i = i + 1;
+    // The text of a template with these values; what they were before is asked where the template marks changes.
+    pub fn put_template(&mut self, template: &[u8], values: &[u64], before: &[u64])
+        ensures { Adds self.old self.new (layout template.now values.now before.now) }
+    {
+        let mut cursor = Cursor {
+            chosen: 0,
+            bars: 0,
+            width: 0,
+            value: 0,
+        };
+        for (i, byte) in template.iter().enumerate() {
+            let next = byte_at(template, i + 1);
+            let value = values.get(cursor.value).copied().unwrap_or(0);
+            let was = before.get(cursor.value).copied().unwrap_or(0);
+            self.put_piece(cursor, *byte, next, value, was);
+            cursor = cursor.moved(*byte, next, value);
+        }
     }
-    place
 }

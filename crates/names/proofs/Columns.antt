@@ -23,8 +23,3 @@ most-name = leb-true (most_of name_template) most_name refl
 pub name-few : (k : ℕ) → length (bare_name k) ≤ most_name
 unfolding bare_name
 name-few k = omega (arith, layout-most name_template (min k kinds ∷ []) [], most-name)
-
-pub written-kind : (k : ℕ) {v : ℕ} → v ≡ min k 28 → {l : List ℕ} {at p : ℕ} {m : List ℕ} → Written l at (layout name_template (v ∷ []) []) p m
-    → Written l at (bare_name k) p m
-unfolding bare_name kinds
-written-kind k is w = rw is at w

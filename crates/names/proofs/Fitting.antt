@@ -15,7 +15,6 @@ use Rattle.words.specs.Kinds.{least, greatest, kind_of, allowed, identifier, bit
 use Rattle.words.specs.Codec.{finding_number}
 use Rattle.words.specs.UpperByte.{kind_of_byte}
 use Rattle.words.proofs.Allowed.{allowed-none}
-use Rattle.words.proofs.UpperByte.{kind-by-byte}
 use Rattle.words.proofs.Tests.{and_left, and_right, or_left, or_right}
 use Rattle.layout.specs.Below.{texts_below}
 use Rattle.layout.specs.Numbers.{bit, ascii, hex_of}
@@ -78,7 +77,8 @@ found-allowed k d = go (ltb k 28) refl (allowed k d) refl
 
 module _ (b l : ℕ) (few : l < 256) where
   same_kind : kind_of (identifier (word_at b l)) ≡ kind_of_byte b
-  same_kind = let e : b ≡ word_at b l / 256 = omega arith in sym (kind-by-byte (word_at b l) (ap kind_of_byte e))
+  unfolding kind_of_byte
+  same_kind = let e : word_at b l / 1024 ≡ b * 256 / 1024 = omega arith in rw e
 
   same_bits : bits_of (word_at b l) ≡ base b + l
   same_bits = omega arith

@@ -2,149 +2,143 @@
 ghost use Rattle.std.specs.Prelude.{◌≡◌, ◌∷◌, ◌<◌};
 ghost use Rattle.layout.specs.Below.{texts_below};
 ghost use Rattle.layout.specs.Numbers.{hex_of};
-ghost use Rattle.layout.specs.Written.{Written, Front};
+ghost use Rattle.layout.specs.Adds.{Adds};
+ghost use Rattle.layout.specs.Written.{Front};
 ghost use Rattle.names.specs.Table.{is_allowed, is_first, bound_text, any_below, ranges_text, gap_text, byte_text, name_text, row_text, table_text};
 
 use crate::kind::put_kind;
-use layout::bytes::{put_byte, put_bytes, within};
 use layout::numbers::hex4;
+use layout::writer::Writer;
 use words::upper_byte::{decode_by_byte, kind_of_byte};
 
 // Room for the table.
 pub const LONGEST: usize = 16384;
 
 // Whether the word with these two bytes is allowed.
+#[tactic(auto, using(crate::proofs::Ranges::found_allowed), unfolding(crate::specs::Table::is_allowed))]
 fn is_allowed(byte: u8, low: u16) -> bool
     ensures { result ≡ is_allowed byte low }
 {
-    if 256 <= low {
-        return false;
-    }
-    let found = decode_by_byte(byte as u16 * 256 + low);
-    found.number() == 0
+    low < 256 && decode_by_byte(u16::from(byte) * 256 + low).is_ok()
 }
 
 // Whether a range begins at an allowed word.
+#[tactic(auto, unfolding(crate::specs::Table::is_first))]
 fn is_first(byte: u8, low: u16) -> bool
     ensures { result ≡ is_first byte low }
 {
-    if low == 0 {
-        return true;
-    }
-    !is_allowed(byte, low - 1)
+    low == 0 || !is_allowed(byte, low - 1)
 }
 
-fn put_word(out: &mut [u8], at: usize, mark: u8, word: u16) -> usize
-    ensures { Written out.old at (mark ∷ hex_of word) result out.new }
+fn put_word(writer: &mut Writer<'_>, mark: u8, word: u16)
+    ensures { Adds writer.old writer.new (mark ∷ hex_of word) }
 {
-    let digits = put_byte(out, at, mark);
-    put_bytes(out, digits, &hex4(word))
+    writer.put_byte(mark);
+    writer.put_bytes(&hex4(word));
 }
 
 // A word at which a range begins or ends.
-fn put_bound(out: &mut [u8], at: usize, byte: u8, low: u16) -> usize
+#[tactic(auto, using(layout::proofs::Adding::adds_none), unfolding(crate::specs::Table::bound_text))]
+fn put_bound(writer: &mut Writer<'_>, byte: u8, low: u16)
     requires { low < 256 }
-    ensures { Written out.old at (bound_text byte low) result out.new }
+    ensures { Adds writer.old writer.new (bound_text byte low) }
 {
     if !is_allowed(byte, low) {
-        return within(at, out.len());
+        return;
     }
-    let word = byte as u16 * 256 + low;
+    let word = u16::from(byte) * 256 + low;
     if is_first(byte, low) {
-        return put_word(out, at, b' ', word);
+        put_word(writer, b' ', word);
+        return;
     }
     if is_allowed(byte, low + 1) {
-        return within(at, out.len());
+        return;
     }
-    put_word(out, at, b'-', word)
+    put_word(writer, b'-', word);
 }
 
-fn put_bounds(out: &mut [u8], at: usize, byte: u8) -> usize
-    ensures { Written out.old at (texts_below (bound_text byte) 256) result out.new }
+fn put_bounds(writer: &mut Writer<'_>, byte: u8)
+    ensures { Adds writer.old writer.new (texts_below (bound_text byte) 256) }
 {
-    let mut place = within(at, out.len());
-    let mut low: u16 = 0;
-    while low < 256 {
-        place = put_bound(out, place, byte, low);
-        low = low + 1;
+    for low in 0..256 {
+        put_bound(writer, byte, low);
     }
-    place
 }
 
-// Whether any word with this upper byte is allowed.
+// Whether any word with this upper byte is allowed. A `for`, since `any_below` begins at the last word and `any` at the first.
 fn any_allowed(byte: u8) -> bool
     ensures { result ≡ any_below byte 256 }
 {
     let mut any = false;
-    let mut low: u16 = 0;
-    while low < 256 {
-        any = any | is_allowed(byte, low);
-        low = low + 1;
+    for low in 0..256 {
+        any |= is_allowed(byte, low);
     }
     any
 }
 
-fn put_ranges(out: &mut [u8], at: usize, byte: u8) -> usize
-    ensures { Written out.old at (ranges_text byte) result out.new }
+#[tactic(auto, unfolding(layout::specs::Numbers::ascii, crate::specs::Table::ranges_text))]
+fn put_ranges(writer: &mut Writer<'_>, byte: u8)
+    ensures { Adds writer.old writer.new (ranges_text byte) }
 {
     if any_allowed(byte) {
-        return put_bounds(out, at, byte);
+        put_bounds(writer, byte);
+        return;
     }
-    put_bytes(out, at, b" none")
+    writer.put_bytes(b" none");
 }
 
 // An empty line before each row of sixteen.
-fn put_gap(out: &mut [u8], at: usize, byte: u8) -> usize
-    ensures { Written out.old at (gap_text byte) result out.new }
+#[tactic(auto, using(layout::proofs::Adding::adds_none), unfolding(layout::specs::Numbers::ascii, crate::specs::Table::gap_text))]
+fn put_gap(writer: &mut Writer<'_>, byte: u8)
+    ensures { Adds writer.old writer.new (gap_text byte) }
 {
     if byte % 16 == 0 {
-        return put_byte(out, at, b'\n');
+        writer.put_byte(b'\n');
+        return;
     }
-    within(at, out.len())
 }
 
 // The byte, in two hexadecimal digits.
-fn put_digits(out: &mut [u8], at: usize, byte: u8) -> usize
-    ensures { Written out.old at (byte_text byte) result out.new }
+#[tactic(auto, unfolding(crate::specs::Table::byte_text))]
+fn put_digits(writer: &mut Writer<'_>, byte: u8)
+    ensures { Adds writer.old writer.new (byte_text byte) }
 {
-    let digits = hex4(byte as u16 * 256);
-    put_bytes(out, at, &digits[..2])
+    let digits = hex4(u16::from(byte) * 256);
+    writer.put_bytes(&digits[..2]);
 }
 
 // The byte and the kind of its words.
-fn put_name(out: &mut [u8], at: usize, byte: u8) -> usize
-    ensures { Written out.old at (name_text byte) result out.new }
+fn put_name(writer: &mut Writer<'_>, byte: u8)
+    ensures { Adds writer.old writer.new (name_text byte) }
 {
-    let space = put_digits(out, at, byte);
-    let kind = put_bytes(out, space, b"    ");
-    put_kind(out, kind, kind_of_byte(byte))
+    put_digits(writer, byte);
+    writer.put_bytes(b"    ");
+    put_kind(writer, kind_of_byte(byte));
 }
 
-fn put_row(out: &mut [u8], at: usize, byte: u8) -> usize
-    ensures { Written out.old at (row_text byte) result out.new }
+fn put_row(writer: &mut Writer<'_>, byte: u8)
+    ensures { Adds writer.old writer.new (row_text byte) }
 {
-    let name = put_gap(out, at, byte);
-    let ranges = put_name(out, name, byte);
-    let end = put_ranges(out, ranges, byte);
-    put_byte(out, end, b'\n')
+    put_gap(writer, byte);
+    put_name(writer, byte);
+    put_ranges(writer, byte);
+    writer.put_byte(b'\n');
 }
 
-fn put_rows(out: &mut [u8], at: usize) -> usize
-    ensures { Written out.old at (texts_below row_text 256) result out.new }
+fn put_rows(writer: &mut Writer<'_>)
+    ensures { Adds writer.old writer.new (texts_below row_text 256) }
 {
-    let mut place = within(at, out.len());
-    let mut byte: usize = 0;
-    while byte < 256 {
-        place = put_row(out, place, byte as u8);
-        byte = byte + 1;
+    for byte in 0..256u16 {
+        put_row(writer, byte as u8);
     }
-    place
 }
 
 // The table at the front; the answer is its length.
 pub fn upper_bytes(out: &mut [u8; LONGEST]) -> usize
     ensures { Front out.old table_text result out.new }
 {
-    let rows = put_bytes(out, 0, b"byte  kind          allowed words\n");
-    put_rows(out, rows)
+    let mut writer = Writer::new(out);
+    writer.put_bytes(b"byte  kind          allowed words\n");
+    put_rows(&mut writer);
+    writer.len()
 }

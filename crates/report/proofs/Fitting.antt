@@ -36,6 +36,7 @@ use Rattle.report.specs.Report.{text_of, report_text, reported_of}
 use Rattle.report.specs.declared.opening.Counts.{Counts}
 use Rattle.report.specs.declared.ending.Outcome.{Outcome}
 use Rattle.report.specs.declared.report.Start.{Start}
+use Rattle.std.specs.Prelude.{Ok}
 use Rattle.report.specs.declared.report.Reported.{Reported}
 use Rattle.report.proofs.Simulated.{reported-few}
 
@@ -241,7 +242,7 @@ unfolding report_text
 report-fits s bs few = le_trans (text-few bs _ _ _ _ _ few) all-few
 
 -- a plan that is reported is one of them
-pub reported-fits : (given : Head) (bs : List ℕ) (room : ℕ) {h : Head} {n : ℕ} → reported_of given bs room ≡ Reported.Done h n
+pub reported-fits : (given : Head) (bs : List ℕ) (room : ℕ) {r : Reported} → reported_of given bs room ≡ Ok r
     → length (report_text given bs) ≤ 65536
 reported-fits given bs room is = report-fits given bs (reported-few given bs room is)
 

@@ -1,11 +1,8 @@
 pub mod Values
 pub mod Rows
-pub mod Orders
 pub mod Walked
-pub mod States
 pub mod Indexing
 pub mod Taken
-pub mod Parts
 pub mod Logs
 pub mod Simulated
 pub mod Fitting

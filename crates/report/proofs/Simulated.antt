@@ -12,7 +12,6 @@ use Rattle.head.specs.Busy.{rest_ticks}
 use Rattle.head.specs.Tick.{ticks_of}
 use Rattle.head.specs.List.{numbers_listed, list_of}
 use Rattle.head.specs.declared.state.Head.{Head}
-use Rattle.head.specs.declared.list.ListAnswer.TheVariants as listed
 use Rattle.head.specs.declared.list.Listed.{Listed}
 use Rattle.plan.specs.Read.{read_record, at_front}
 use Rattle.plan.specs.Rows.{record_of}
@@ -21,13 +20,15 @@ use Rattle.plan.proofs.Recorded.{front_long, record-long}
 use Rattle.plan.proofs.Logging.{log-few as acts-few}
 use Rattle.schedule.specs.Schedule.{Timed, Schedule}
 use Rattle.schedule.specs.Translate.{most_words, schedule_of, translate_of, filled, word_list, tick_list, translation_number, translation_place}
-use Rattle.schedule.specs.declared.Translated.{Translated}
+use Rattle.std.specs.Prelude.{Result, Ok, Err}
+use Rattle.schedule.specs.declared.Translation.{Translation}
+use Rattle.schedule.specs.declared.TranslateError.{TranslateError}
 use Rattle.run.specs.Run.{head_after, log_of}
 use Rattle.run.specs.Rehearse.{run_of, run_record}
 use Rattle.run.specs.Compare.{same, compared_by, compared_of, compared_number, compared_place}
 use Rattle.run.specs.Listed.{NoCause}
 use Rattle.run.specs.Claim.{paired, Demands}
-use Rattle.run.specs.declared.compare.Compared.{Compared}
+use Rattle.run.specs.declared.compare.Comparison.{Comparison}
 use Rattle.run.proofs.Accepted.{translated-demands, translated-list, translated-end}
 use Rattle.run.proofs.Listed.{translated-listed}
 use Rattle.layout.specs.Written.{Written}
@@ -38,7 +39,7 @@ use Rattle.report.specs.declared.report.Reported.{Reported}
 use Rattle.report.proofs.Logs.{acts_in, log-acts, record-entry, lines-alike}
 
 -- the head that was given, the ticks until it is at rest and the head then; the answer of the comparison and the buffers that it filled
-pub record Simulated (given : Head) (bs W T R : List ℕ) (rest : ℕ) (s : Head) (c : Compared) (W' T' R' : List ℕ) : Type 0 where
+pub record Simulated (given : Head) (bs W T R : List ℕ) (rest : ℕ) (s : Head) (c : Result Comparison TranslateError) (W' T' R' : List ℕ) : Type 0 where
   pub ticks : rest ≡ rest_ticks given
   pub start : s ≡ ticks_of rest given
   pub long_w : length W ≡ most_words
@@ -49,36 +50,53 @@ pub record Simulated (given : Head) (bs W T R : List ℕ) (rest : ℕ) (s : Head
   pub ticks_is : T' ≡ filled (translate_of s bs most_words most_words) (tick_list (schedule_of s (plan_of bs))) T
   pub rows_is : R' ≡ filled (translate_of s bs most_words most_words) (run_record s (schedule_of s (plan_of bs))) R
 
--- what an answer Done says
-record Parts (s : Head) (bs : List ℕ) (h : Head) (n e : ℕ) (b : Bool) : Type 0 where
-  done : translate_of s bs most_words most_words ≡ Translated.Done n e
-  last : h ≡ head_after (schedule_of s (plan_of bs)).end 0 (schedule_of s (plan_of bs)).list s
-  equal : b ≡ same (run_record s (schedule_of s (plan_of bs))) (read_record s.settings (plan_of bs))
+-- what an answer says that is no refusal
+record Parts (s : Head) (bs : List ℕ) (c : Comparison) : Type 0 where
+  done : translate_of s bs most_words most_words ≡ Ok (record { count = c.count; end = c.end })
+  last : c.head ≡ head_after (schedule_of s (plan_of bs)).end 0 (schedule_of s (plan_of bs)).list s
+  equal : c.equal ≡ same (run_record s (schedule_of s (plan_of bs))) (read_record s.settings (plan_of bs))
 
-module _ {given : Head} {bs W T R : List ℕ} {rest : ℕ} {s : Head} {c : Compared} {W' T' R' : List ℕ} (h : Simulated given bs W T R rest s c W' T' R') where
+module _ {given : Head} {bs W T R : List ℕ} {rest : ℕ} {s : Head} {c : Result Comparison TranslateError} {W' T' R' : List ℕ} (h : Simulated given bs W T R rest s c W' T' R') where
   abbrev sch : Schedule
   sch = schedule_of s (plan_of bs)
 
   same_start : s ≡ rested given
   same_start = h.start ∙ rw h.ticks
 
-  module _ {last : Head} {n e a : ℕ} {b : Bool} (is : c ≡ Compared.Done last n e a b) where
-    parts : Parts s bs last n e b
+  module _ {x : Comparison} (is : c ≡ Ok x) where
+    abbrev last : Head
+    last = x.head
+
+    abbrev n : ℕ
+    n = x.count
+
+    abbrev e : ℕ
+    e = x.end
+
+    abbrev b : Bool
+    b = x.equal
+
+    parts : Parts s bs x
     unfolding compared_of compared_by
     parts = go (translate_of s bs most_words most_words) refl (sym is ∙ h.is)
       where
-        go : (t : Translated) → translate_of s bs most_words most_words ≡ t → Compared.Done last n e a b ≡ compared_by s (plan_of bs) sch t → Parts s bs last n e b
-        go (Translated.Done m f) k eq = record { done = k ∙ cc; last = cc; equal = cc }
-        go (Translated.Refused m p) k eq = let z : ◌≡◌ {A = ℕ} 0 1 = cc in absurd (omega arith)
-        go (Translated.Short m) k eq = let z : ◌≡◌ {A = ℕ} 0 1 = cc in absurd (omega arith)
+        go : (t : Result Translation TranslateError) → translate_of s bs most_words most_words ≡ t → Ok x ≡ compared_by s (plan_of bs) sch t → Parts s bs x
+        go (Ok t) k eq =
+            let said : x ≡ record { head = head_after sch.end 0 sch.list s; count = t.count; end = t.end; acts = length (log_of (run_of s sch)); equal = same (run_record s sch) (read_record s.settings (plan_of bs)) } = cc in
+            record {
+              done = rw said k;
+              last = ap (λ (y : Comparison). y.head) said;
+              equal = ap (λ (y : Comparison). y.equal) said;
+            }
+        go (Err f) k eq = cc
 
-    answer : Translated.Done n e ≡ translate_of s bs (length W) (length T)
+    answer : Ok (record { count = n; end = e }) ≡ translate_of s bs (length W) (length T)
     answer = rw (h.long_w, h.long_t) (sym parts.done)
 
-    words : W' ≡ filled (Translated.Done n e) (word_list sch) W
+    words : W' ≡ filled (Ok (record { count = n; end = e })) (word_list sch) W
     words = rw parts.done at h.words_is
 
-    ticks : T' ≡ filled (Translated.Done n e) (tick_list sch) T
+    ticks : T' ≡ filled (Ok (record { count = n; end = e })) (tick_list sch) T
     ticks = rw parts.done at h.ticks_is
 
     demands : Demands s bs (orders_in (plan_of bs)) (paired (take n T') (take n W')) n e
@@ -91,7 +109,7 @@ module _ {given : Head} {bs W T R : List ℕ} {rest : ℕ} {s : Head} {c : Compa
     count-few = demands.most
 
     -- the first places of a buffer are the numbers that filled it
-    front : (f : Timed → ℕ) (old new : List ℕ) → new ≡ filled (Translated.Done n e) (map f sch.list) old → take n new ≡ map f sch.list
+    front : (f : Timed → ℕ) (old new : List ℕ) → new ≡ filled (Ok (record { count = n; end = e })) (map f sch.list) old → take n new ≡ map f sch.list
     unfolding filled
     front f old new k = rw k (take_at (map f sch.list) (drop (length (map f sch.list)) old) n (length-map sch.list f ∙ sym count))
 
@@ -121,7 +139,7 @@ module _ {given : Head} {bs W T R : List ℕ} {rest : ℕ} {s : Head} {c : Compa
 
     -- what giving the list to the head asks
     pub given-asks : (length (take n W') ≡ length (take n T'))
-        × ((length (take n W') ≤ most_words) × ((list_of s (take n W') (take n T') most_words).answer ≡ listed.Done))
+        × ((length (take n W') ≤ most_words) × ((list_of s (take n W') (take n T') most_words).answer ≡ Ok tt))
     given-asks =
         let few : length (take n W') ≤ most_words = rw long count-few in
         let whole = (translated-listed s bs W T W' T' n e answer words ticks).answer most_words few in
@@ -194,25 +212,26 @@ module _ {given : Head} {bs W T R : List ℕ} {rest : ℕ} {s : Head} {c : Compa
     pub way-done : compared_number c ≡ translation_number s bs most_words most_words → compared_place c ≡ translation_place s bs → {t : ℕ} → t ≡ taken_in (numbers_listed (take n W') (take n T') s) → {out : List ℕ} {k : ℕ} {out' : List ℕ}
         → Written out 0 (text_of bs (take n T') (entries_in 65 R') (record { given = given; rest = rest; head = s }) last
         (record { end = e; words = n; taken = t; equal = b })) k out'
-        → (Reported.Done last k ≡ reported_of given bs (length out))
-        × ((out' ≡ report_after (Reported.Done last k) (report_text given bs) out)
-        × ((reported_number (Reported.Done last k) ≡ translation_number (rested given) bs most_words most_words)
-        × (reported_place (Reported.Done last k) ≡ translation_place (rested given) bs)))
+        → (Ok (record { head = last; length = k }) ≡ reported_of given bs (length out))
+        × ((out' ≡ report_after (Ok (record { head = last; length = k })) (report_text given bs) out)
+        × ((reported_number (Ok (record { head = last; length = k })) ≡ translation_number (rested given) bs most_words most_words)
+        × (reported_place (Ok (record { head = last; length = k })) ≡ translation_place (rested given) bs)))
     unfolding reported_of reported_by report_after
     way-done number place_is taken {out} {k} w =
         let written = rw (text-is taken) at w in
         let place : k ≡ min (length (report_text given bs)) (length out) = written.place ∙ rw (zero-add (length (report_text given bs))) in
         (rw (← same_start, ← h.is, is, place), (written.bytes, (rw (is, same_start) at number, rw (is, same_start) at place_is)))
 
-  -- refused: the comparison's number and place, and nothing is written
-  pub way-refused : compared_number c ≡ translation_number s bs most_words most_words → compared_place c ≡ translation_place s bs → {m p : ℕ} → c ≡ Compared.Refused m p → (out : List ℕ)
-      → (Reported.Refused m p ≡ reported_of given bs (length out))
-      × ((out ≡ report_after (Reported.Refused m p) (report_text given bs) out)
-      × ((reported_number (Reported.Refused m p) ≡ translation_number (rested given) bs most_words most_words)
-      × (reported_place (Reported.Refused m p) ≡ translation_place (rested given) bs)))
+  -- refused: the comparison's error, and nothing is written
+  pub way-refused : compared_number c ≡ translation_number s bs most_words most_words → compared_place c ≡ translation_place s bs
+      → {r : Result Reported TranslateError} {f : TranslateError} → r ≡ Err f → c ≡ Err f → (out : List ℕ)
+      → (r ≡ reported_of given bs (length out))
+      × ((out ≡ report_after r (report_text given bs) out)
+      × ((reported_number r ≡ translation_number (rested given) bs most_words most_words)
+      × (reported_place r ≡ translation_place (rested given) bs)))
   unfolding reported_of reported_by report_after
-  way-refused number place_is is out =
-      (rw (← same_start, ← h.is, is), (refl, (rw (is, same_start) at number, rw (is, same_start) at place_is)))
+  way-refused number place_is answered is out =
+      rw answered (rw (← same_start, ← h.is, is), (refl, (rw (is, same_start) at number, rw (is, same_start) at place_is)))
 
 -- the comparison with buffers of zeros
 pub simulated-zeros : (given : Head) (bs : List ℕ)
@@ -237,12 +256,12 @@ simulated-zeros given bs =
     }
 
 -- a plan that is reported has at most 64 orders
-pub reported-few : (given : Head) (bs : List ℕ) (room : ℕ) {h : Head} {n : ℕ} → reported_of given bs room ≡ Reported.Done h n
+pub reported-few : (given : Head) (bs : List ℕ) (room : ℕ) {r : Reported} → reported_of given bs room ≡ Ok r
     → length (orders_in (plan_of bs)) ≤ 64
 unfolding reported_of reported_by
-reported-few given bs room {h} {n} is = go (compared_of (rested given) bs) refl is
+reported-few given bs room {r} is = go (compared_of (rested given) bs) refl is
   where
-    go : (c : Compared) → compared_of (rested given) bs ≡ c → reported_by (report_text given bs) room (compared_of (rested given) bs) ≡ Reported.Done h n
+    go : (c : Result Comparison TranslateError) → compared_of (rested given) bs ≡ c → reported_by (report_text given bs) room (compared_of (rested given) bs) ≡ Ok r
         → length (orders_in (plan_of bs)) ≤ 64
-    go (Compared.Done l m e a b) k eq = orders-few (simulated-zeros given bs) k
-    go (Compared.Refused m p) k eq = let w = rw k at eq in let z : ◌≡◌ {A = ℕ} 0 1 = cc in absurd (omega arith)
+    go (Ok x) k eq = orders-few (simulated-zeros given bs) k
+    go (Err f) k eq = cc (rw k at eq)

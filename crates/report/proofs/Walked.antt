@@ -1,9 +1,9 @@
 -- The lines of a plan's orders written one after another: k orders have been passed.
 -- Assumes nothing.
-use mathlib.Core.Path.{◌≡◌, sym, ap, ◌∙◌}
+use mathlib.Core.Path.{◌≡◌, refl, sym, ap, ◌∙◌}
 use mathlib.Core.Bool.{true}
 use mathlib.Core.List.{List, ◌∷◌}
-use Prim.Native.Nat.{ℕ, ◌+◌, ◌-◌, ◌*◌, ◌^◌, ◌≤◌, ◌<◌, min}
+use Prim.Native.Nat.{ℕ, ◌+◌, ◌-◌, ◌*◌, ◌^◌, ◌≤◌, ◌<◌}
 use native.Mathlib.Omega.{arith}
 use lib.ListN.{length, get_or, take, drop, drop_of_length-le}
 use Rattle.head.specs.declared.state.Settings.{Settings}
@@ -13,24 +13,25 @@ use Rattle.orders.specs.declared.order.Order.{Order}
 use Rattle.plan.specs.Reading.{request}
 use Rattle.plan.specs.Stored.{orders, byte_at, order_at, plan_of}
 use Rattle.plan.specs.Judged.{checked_at}
-use Rattle.plan.specs.declared.stored.Checked.{Checked}
-use Rattle.plan.proofs.Bytes.{checked-fault, checked-order}
+use Rattle.plan.proofs.Faults.{unless-none, ok-is}
+use Rattle.std.specs.Prelude.{Ok}
 use Rattle.plan.proofs.Walking.{Walking, walking-first, walking-order, walking-whole, walking-sound, walking-next}
 use Rattle.schedule.proofs.OrderLaid.{fit-few}
 use Rattle.layout.specs.Numbers.{bit}
 use Rattle.layout.proofs.Bits.{bit-few}
-use Rattle.layout.specs.Written.{Written}
-use Rattle.layout.proofs.Writing.{Partly, partly-first, partly-next, partly-done}
+use Rattle.layout.specs.Adds.{Adds}
+use Rattle.layout.specs.declared.writer.Writer.{Writer}
+use Rattle.layout.proofs.Adding.{Partly, partly-first, partly-next, partly-done}
 use Rattle.report.specs.Read.{row_entry, entries_in}
 use Rattle.report.specs.Lines.{is_act, order_line, exposed_after, order_lines}
-use Rattle.report.proofs.Rows.{entry_at, part-row, part-long}
+use Rattle.report.proofs.Rows.{entry_at, part-row}
 
 pub act-one : (c : ℕ) {d : ℕ} → d ≡ bit (is_act c) → d ≤ 1
 act-one c is = rw is (bit-few (is_act c))
 
-pub record Walked (old : List ℕ) (start : ℕ) (bs : List ℕ) (os : List Order) (count : ℕ) (ticks rows : List ℕ) (settings : Settings)
-    (new : List ℕ)
-    (place at words acts : ℕ)
+pub record Walked (old : Writer) (bs : List ℕ) (os : List Order) (count : ℕ) (ticks rows : List ℕ) (settings : Settings)
+    (new : Writer)
+    (at words acts : ℕ)
     (before : Settings)
     (k : ℕ) : Type 0 where
   pub walk : Walking bs os at k
@@ -39,15 +40,14 @@ pub record Walked (old : List ℕ) (start : ℕ) (bs : List ℕ) (os : List Orde
   pub small : words ≤ 4 * k
   pub room : length rows ≡ 1365
   pub bound : length bs < 2 ^ 64
-  pub part : Partly old start (order_lines 0 0 0 settings os ticks (entries_in 65 rows))
+  pub part : Partly old (order_lines 0 0 0 settings os ticks (entries_in 65 rows))
       (order_lines k words acts before (drop k os) ticks (entries_in 65 rows))
       new
-      place
 
-module _ {old : List ℕ} {start : ℕ} {bs : List ℕ} {os : List Order} {count : ℕ} {ticks rows : List ℕ} {settings : Settings} where
-  pub walked-first : plan_of bs ≡ orders os → length os ≡ count → length rows ≡ 1365 → length bs < 2 ^ 64 → {place : ℕ} → place ≡ min start (length old)
-      → Walked old start bs os count ticks rows settings old place 3 0 0 settings 0
-  walked-first e long room bound h =
+module _ {old : Writer} {bs : List ℕ} {os : List Order} {count : ℕ} {ticks rows : List ℕ} {settings : Settings} where
+  pub walked-first : plan_of bs ≡ orders os → length os ≡ count → length rows ≡ 1365 → length bs < 2 ^ 64
+      → Walked old bs os count ticks rows settings old 3 0 0 settings 0
+  walked-first e long room bound =
       record {
         walk = walking-first bs os e;
         long = long;
@@ -55,11 +55,11 @@ module _ {old : List ℕ} {start : ℕ} {bs : List ℕ} {os : List Order} {count
         small = omega arith;
         room = room;
         bound = bound;
-        part = partly-first h;
+        part = partly-first;
       }
 
-  module _ {new : List ℕ} {place at words acts : ℕ} {before : Settings} {k : ℕ}
-      (h : Walked old start bs os count ticks rows settings new place at words acts before k) where
+  module _ {new : Writer} {at words acts : ℕ} {before : Settings} {k : ℕ}
+      (h : Walked old bs os count ticks rows settings new at words acts before k) where
     module _ (more : k < count) where
       some : k < length os
       some = let long = h.long in omega arith
@@ -67,8 +67,11 @@ module _ {old : List ℕ} {start : ℕ} {bs : List ℕ} {os : List Order} {count
       pub acts-few : acts < 64
       acts-few = let few = h.few in let most = h.walk.few in omega (arith, some)
 
-      pub order_is : {r : Checked} → r ≡ checked_at bs at → r.order ≡ order_at bs at
-      order_is is = checked-order bs at is (checked-fault bs at is ∙ walking-whole bs os at k h.walk some)
+      pub order-whole : Ok (order_at bs at) ≡ checked_at bs at
+      order-whole = unless-none _ _ (sym (walking-whole bs os at k h.walk some)) refl
+
+      pub order_is : {o : Order} → Ok o ≡ checked_at bs at → o ≡ order_at bs at
+      order_is is = ok-is _ _ is
 
       pub order-fits : fit (order_at bs at) ≡ true
       order-fits = (walking-sound bs os at k h.walk some).fits
@@ -79,20 +82,17 @@ module _ {old : List ℕ} {start : ℕ} {bs : List ℕ} {os : List Order} {count
       pub words-few : length (words_of (order_at bs at)) ≤ 4
       words-few = fit-few (order_at bs at) order-fits
 
-      pub row-long : length (take (21 * acts + 21 - 21 * acts) (drop (21 * acts) rows)) ≡ 21
-      row-long = part-long rows acts (let few = acts-few in let room = h.room in omega arith)
-
       abbrev row : List ℕ
       row = take (21 * acts + 21 - 21 * acts) (drop (21 * acts) rows)
 
       pub walked_next : {o : Order} → o ≡ order_at bs at
           → {n : ℕ} → n ≡ length (words_of o)
           → {t : ℕ} → t ≡ get_or ticks (words + n - 1) 0
-          → {place' : ℕ} {new' : List ℕ} → Written new place (order_line (k + 1) o t (row_entry row) before) place' new'
+          → {new' : Writer} → Adds new new' (order_line (k + 1) o t (row_entry row) before)
           → {before' : Settings} → before' ≡ exposed_after o.code (row_entry row) before
           → {d : ℕ} → d ≡ bit (is_act o.code)
           → {b : ℕ} → b ≡ byte_at bs at
-          → Walked old start bs os count ticks rows settings new' place' (at + 1 + b) (words + n) (acts + d) before' (k + 1)
+          → Walked old bs os count ticks rows settings new' (at + 1 + b) (words + n) (acts + d) before' (k + 1)
       unfolding order_lines
       walked_next {o} is {n} wn {t} wt w wb {d} wd bb =
           let e : get_or (entries_in 65 rows) acts request ≡ row_entry row =
@@ -113,7 +113,7 @@ module _ {old : List ℕ} {start : ℕ} {bs : List ℕ} {os : List Order} {count
             part = partly-next h.part (left ∙ rw (e, ← wn, ← wt, ← wd, ← wb)) w;
           }
 
-    pub walked-done : count ≤ k → Written old start (order_lines 0 0 0 settings os ticks (entries_in 65 rows)) place new
+    pub walked-done : count ≤ k → Adds old new (order_lines 0 0 0 settings os ticks (entries_in 65 rows))
     unfolding order_lines
     walked-done all =
         let none = drop_of_length-le os {i = k} (let long = h.long in omega arith) in

@@ -1,34 +1,13 @@
 -- A record of acts read back from its numbers: a row of 21 for each act, and one for the settings at the end (plan, Rows).
 -- Assumes nothing.
 use Rattle.std.specs.Prelude.{ℕ, zero, suc, cond, List, [], ◌∷◌, eqb, get_or, take, drop}
+use Rattle.head.specs.Row.{settings_of}
 use Rattle.head.specs.declared.state.Settings.{Settings}
 use Rattle.plan.specs.Reading.{Entry, exposure, request, cover_move}
 
 -- The twenty registers after the first number.
 abbrev pub row_settings : List ℕ → Settings
-row_settings row =
-    record {
-      detector = get_or row 1 0;
-      mode = get_or row 2 0;
-      vdetcom = get_or row 3 0;
-      vdetadj = get_or row 4 0;
-      irdelay = get_or row 5 0;
-      irexpo = get_or row 6 0;
-      ccddelay = get_or row 7 0;
-      ccdexpo = get_or row 8 0;
-      x1 = get_or row 9 0;
-      y1 = get_or row 10 0;
-      x2 = get_or row 11 0;
-      y2 = get_or row 12 0;
-      ccdlamp = get_or row 13 0;
-      irlamp = get_or row 14 0;
-      shutter = get_or row 15 0;
-      annealing = get_or row 16 0;
-      sine = get_or row 17 0;
-      cosine = get_or row 18 0;
-      switch = get_or row 19 0;
-      direction = get_or row 20 0;
-    }
+row_settings row = settings_of (drop 1 row)
 
 -- 1 is an exposure, 2 a housekeeping request, any other number a cover move with its four fields.
 unfoldable pub row_entry : List ℕ → Entry

@@ -1,6 +1,6 @@
 -- The report of a plan, computed from a state: the ticks until it is idle and at rest pass first.
 -- Assumes nothing.
-use Rattle.std.specs.Prelude.{ℕ, ◌+◌, min, not, List, [], ◌∷◌, ◌++◌, length}
+use Rattle.std.specs.Prelude.{ℕ, ◌+◌, min, not, List, [], ◌∷◌, ◌++◌, length, Result, Ok, Err}
 use Rattle.std.proofs.lemmas.List.Edits.{sets}
 use Rattle.head.specs.Busy.{rest_ticks}
 use Rattle.head.specs.Tick.{ticks_of}
@@ -10,11 +10,12 @@ use Rattle.head.specs.declared.state.Head.{Head}
 use Rattle.plan.specs.Reading.{Entry}
 use Rattle.plan.specs.Read.{read_record}
 use Rattle.plan.specs.Stored.{plan_of, orders_in}
-use Rattle.schedule.specs.Translate.{schedule_of, tick_list, word_list}
+use Rattle.schedule.specs.Translate.{schedule_of, tick_list, word_list, translate_error_number, translate_error_place}
+use Rattle.schedule.specs.declared.TranslateError.{TranslateError}
 use Rattle.run.specs.Run.{head_after, log_of}
 use Rattle.run.specs.Rehearse.{run_of, run_record}
 use Rattle.run.specs.Compare.{same, compared_of}
-use Rattle.run.specs.declared.compare.Compared.{Compared}
+use Rattle.run.specs.declared.compare.Comparison.{Comparison}
 use Rattle.layout.specs.Numbers.{bit}
 use Rattle.report.specs.Lines.{order_lines}
 use Rattle.report.specs.Opening.{opening_text}
@@ -57,23 +58,23 @@ report_text given bs =
     })
 
 -- The head at the end, and the length of the text as far as there is room for it. A refusal is the comparison's.
-unfoldable pub reported_by : List ℕ → ℕ → Compared → Reported
-reported_by text room (Compared.Done h n e a b) = Reported.Done h (min (length text) room)
-reported_by text room (Compared.Refused n p) = Reported.Refused n p
+unfoldable pub reported_by : List ℕ → ℕ → Result Comparison TranslateError → Result Reported TranslateError
+reported_by text room (Ok c) = Ok (record { head = c.head; length = min (length text) room })
+reported_by text room (Err e) = Err e
 
-unfoldable pub reported_of : Head → List ℕ → ℕ → Reported
+unfoldable pub reported_of : Head → List ℕ → ℕ → Result Reported TranslateError
 reported_of given bs room = reported_by (report_text given bs) room (compared_of (rested given) bs)
 
 -- The text from the first place on, as far as there is room for it; a refusal writes nothing.
-unfoldable pub report_after : Reported → List ℕ → List ℕ → List ℕ
-report_after (Reported.Done h n) text old = sets old 0 text
-report_after (Reported.Refused n p) text old = old
+unfoldable pub report_after : Result Reported TranslateError → List ℕ → List ℕ → List ℕ
+report_after (Ok r) text old = sets old 0 text
+report_after (Err e) text old = old
 
 -- The refusal's number of document 01, 0 for none, and its byte place.
-abbrev pub reported_number : Reported → ℕ
-reported_number (Reported.Done h n) = 0
-reported_number (Reported.Refused n p) = n
+abbrev pub reported_number : Result Reported TranslateError → ℕ
+reported_number (Ok r) = 0
+reported_number (Err e) = translate_error_number e
 
-abbrev pub reported_place : Reported → ℕ
-reported_place (Reported.Done h n) = 0
-reported_place (Reported.Refused n p) = p
+abbrev pub reported_place : Result Reported TranslateError → ℕ
+reported_place (Ok r) = 0
+reported_place (Err e) = translate_error_place e

@@ -3,16 +3,15 @@ ghost use Rattle.std.specs.Prelude.{◌≡◌, ◌-◌, ◌≤◌, length, get_o
 ghost use Rattle.orders.specs.Words.{words_of};
 ghost use Rattle.plan.specs.Stored.{orders, plan_of, orders_in};
 ghost use Rattle.layout.specs.Numbers.{bit};
-ghost use Rattle.layout.specs.Written.{Written};
+ghost use Rattle.layout.specs.Adds.{Adds};
 ghost use Rattle.report.specs.Acts.{exposed_by};
 ghost use Rattle.report.specs.Read.{row_entry, entries_in};
 ghost use Rattle.report.specs.Lines.{exposed_after, is_switch, order_case, order_shown, order_text, is_act, place_text, order_line, order_lines};
 
 use crate::acts::{put_act, settings_of};
 use head::state::{Head, Settings};
-use layout::bytes::within;
 use layout::numbers::bit;
-use layout::template::put_template;
+use layout::writer::Writer;
 use orders::codes;
 use orders::encoding::sine_register;
 use orders::order::Order;
@@ -20,6 +19,7 @@ use plan::log::{EXPOSURE, ROW};
 use plan::stored::{HEADER, byte_at, checked_at};
 
 // The orders whose first field switches something on or off, or between two modes.
+#[tactic(auto, unfolding(crate::specs::Lines::is_switch))]
 fn is_switch(code: u8) -> bool
     ensures { result ≡ is_switch code }
 {
@@ -29,6 +29,7 @@ fn is_switch(code: u8) -> bool
 }
 
 // Which of the texts is the order's: two for each code, the second for a switch that is 1.
+#[tactic(auto, unfolding(crate::specs::Lines::order_case))]
 fn order_case(order: Order) -> u64
     ensures { result ≡ order_case order }
 {
@@ -40,6 +41,7 @@ fn order_case(order: Order) -> u64
 }
 
 // The values that the order's text shows, after the case.
+#[tactic(auto, unfolding(crate::specs::Lines::order_shown))]
 fn order_values(order: Order) -> [u64; 5]
     ensures { result ≡ order_shown order }
 {
@@ -68,13 +70,11 @@ fn order_values(order: Order) -> [u64; 5]
 }
 
 // What an order does that is no act.
-fn put_order_text(out: &mut [u8], at: usize, order: Order) -> usize
-    ensures { Written out.old at (order_text order) result out.new }
+fn put_order_text(writer: &mut Writer<'_>, order: Order)
+    ensures { Adds writer.old writer.new (order_text order) }
 {
     let values = order_values(order);
-    put_template(
-        out,
-        at,
+    writer.put_template(
         b"{||\
         VDETCOM ####||\
         VDETADJ ####||\
@@ -93,10 +93,11 @@ fn put_order_text(out: &mut [u8], at: usize, order: Order) -> usize
         wait @@@@@ ticks, %%%%%% s}\n",
         &values,
         &values,
-    )
+    );
 }
 
 // The orders whose line is that of the head's log.
+#[tactic(auto, unfolding(crate::specs::Lines::is_act))]
 fn is_act(code: u8) -> bool
     ensures { result ≡ is_act code }
 {
@@ -104,58 +105,55 @@ fn is_act(code: u8) -> bool
 }
 
 // The order's index, and the tick of its last word; a wait has no word.
-fn put_place(out: &mut [u8], at: usize, index: usize, code: u8, tick: u32) -> usize
-    ensures { Written out.old at (place_text index code tick) result out.new }
+#[tactic(auto, unfolding(crate::specs::Lines::place_text, crate::specs::Lines::place_template, layout::specs::Numbers::ascii))]
+fn put_place(writer: &mut Writer<'_>, index: usize, code: u8, tick: u32)
+    ensures { Adds writer.old writer.new (place_text index code tick) }
 {
     let words = bit(code != codes::WAIT);
     let values = [index as u64, words, tick as u64, tick as u64];
-    put_template(
-        out,
-        at,
+    writer.put_template(
         b"#####  {                   |#######  %%%%%%%%  }",
         &values,
         &values,
-    )
+    );
 }
 
 // The line of an order; the row is that of the next act.
 fn put_order(
-    out: &mut [u8],
-    at: usize,
+    writer: &mut Writer<'_>,
     index: usize,
     order: Order,
     tick: u32,
     row: &[u16],
     before: Settings,
-) -> usize
+)
     requires { length row.now ≡ 21 }
-    ensures { Written out.old at (order_line index order tick (row_entry row.now) before) result out.new }
+    ensures { Adds writer.old writer.new (order_line index order tick (row_entry row.now) before) }
 {
-    let text = put_place(out, at, index, order.code, tick);
+    put_place(writer, index, order.code, tick);
     if is_act(order.code) {
-        return put_act(out, text, row, before);
+        put_act(writer, row, before);
+        return;
     }
-    put_order_text(out, text, order)
+    put_order_text(writer, order);
 }
 
 // A tick; 0 past the end.
 fn tick_at(ticks: &[u32], i: usize) -> u32
     ensures { result ≡ get_or ticks.now i 0 }
 {
-    if i < ticks.len() { ticks[i] } else { 0 }
+    ticks.get(i).copied().unwrap_or(0)
 }
 
 // The tick of the last of so many words.
 fn last_tick(ticks: &[u32], words: usize) -> u32
     ensures { result ≡ get_or ticks.now (words - 1) 0 }
 {
-    if words == 0 {
-        return tick_at(ticks, 0);
-    }
-    tick_at(ticks, words - 1)
+    tick_at(ticks, words.saturating_sub(1))
 }
 
 // The settings of the last exposure: those of this act where it is one.
+#[tactic(auto, unfolding(crate::specs::Acts::exposed_by, crate::specs::Read::row_entry))]
 fn exposed_by(row: &[u16], before: Settings) -> Settings
     requires { length row.now ≡ 21 }
     ensures { result ≡ exposed_by (row_entry row.now) before }
@@ -167,6 +165,7 @@ fn exposed_by(row: &[u16], before: Settings) -> Settings
 }
 
 // The same after an order, whose row that is where it is an act.
+#[tactic(auto, unfolding(crate::specs::Lines::exposed_after))]
 fn exposed_after(code: u8, row: &[u16], before: Settings) -> Settings
     requires { length row.now ≡ 21 }
     ensures { result ≡ exposed_after code (row_entry row.now) before }
@@ -181,10 +180,7 @@ fn exposed_after(code: u8, row: &[u16], before: Settings) -> Settings
 fn act_count(code: u8) -> usize
     ensures { result ≡ bit (is_act code) }
 {
-    if is_act(code) {
-        return 1;
-    }
-    0
+    usize::from(is_act(code))
 }
 
 fn word_count(order: Order) -> usize
@@ -196,38 +192,32 @@ fn word_count(order: Order) -> usize
 
 // The lines of an accepted plan's orders, by the ticks of its words and the rows of the head's log.
 pub(crate) fn put_orders(
-    out: &mut [u8],
-    start: usize,
+    writer: &mut Writer<'_>,
     plan: &[u8],
     count: usize,
     ticks: &[u32],
     rows: &[u16],
     settings: Settings,
-) -> usize
+)
     requires fact_1 { plan_of plan.now ≡ orders (orders_in (plan_of plan.now)) }
     requires fact_2 { length (orders_in (plan_of plan.now)) ≡ count }
     requires fact_3 { length rows.now ≡ 1365 }
-    ensures { Written out.old start (order_lines 0 0 0 settings (orders_in (plan_of plan.now)) ticks.now (entries_in 65 rows.now)) result out.new }
+    ensures { Adds writer.old writer.new (order_lines 0 0 0 settings (orders_in (plan_of plan.now)) ticks.now (entries_in 65 rows.now)) }
 {
-    let mut place = within(start, out.len());
     let mut at: usize = HEADER;
     let mut words: usize = 0;
     let mut acts: usize = 0;
     let mut before = settings;
-    let mut k: usize = 0;
-    while k < count {
-        let checked = checked_at(plan, at);
-        let order = checked.order;
+    for k in 0..count {
+        let order = checked_at(plan, at).unwrap();
         words = words + word_count(order);
         let from = ROW * acts;
         let to = from + ROW;
         let row = &rows[from..to];
         let tick = last_tick(ticks, words);
-        place = put_order(out, place, k + 1, order, tick, row, before);
+        put_order(writer, k + 1, order, tick, row, before);
         before = exposed_after(order.code, row, before);
         acts = acts + act_count(order.code);
         at = at + 1 + byte_at(plan, at) as usize;
-        k = k + 1;
     }
-    place
 }

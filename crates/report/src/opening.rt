@@ -1,6 +1,6 @@
 // The first lines of a report: the plan, and the state from which it was computed.
 ghost use Rattle.std.specs.Prelude.{◌≡◌};
-ghost use Rattle.layout.specs.Written.{Written};
+ghost use Rattle.layout.specs.Adds.{Adds};
 ghost use Rattle.head.specs.Row.{numbers_of};
 ghost use Rattle.head.specs.State.{power_on};
 ghost use Rattle.run.specs.Compare.{same};
@@ -8,10 +8,11 @@ ghost use Rattle.report.specs.Opening.{flags_shown, plan_text, start_text, openi
 
 use head::state::{FlagBits, Head, Settings};
 use layout::numbers::bit;
-use layout::template::put_template;
+use layout::writer::Writer;
 use registers::put_settings;
 
 // Whether a flag is raised, and the five flags.
+#[tactic(auto, unfolding(crate::specs::Opening::flags_shown))]
 pub(crate) fn flag_values(flags: FlagBits) -> [u64; 6]
     ensures { result ≡ flags_shown flags }
 {
@@ -28,24 +29,10 @@ pub(crate) fn flag_values(flags: FlagBits) -> [u64; 6]
     ]
 }
 
-// Whether two states are the same.
-fn same_states(a: [u16; 35], b: [u16; 35]) -> bool
-    ensures { result ≡ same a b }
-{
-    let mut i: usize = 0;
-    while i < 35 {
-        if a[i] != b[i] {
-            return false;
-        }
-        i = i + 1;
-    }
-    true
-}
-
 fn is_power_on(head: Head) -> bool
     ensures { result ≡ same (numbers_of head) (numbers_of power_on) }
 {
-    same_states(head.numbers(), Head::power_on().numbers())
+    head.numbers() == Head::power_on().numbers()
 }
 
 #[derive(Clone, Copy)]
@@ -56,8 +43,9 @@ pub(crate) struct Counts {
 }
 
 // The counts of the plan, whether the state that was given is power-on, and the ticks until it was idle and at rest.
-fn put_plan(out: &mut [u8], counts: Counts, on: bool, rest: u32) -> usize
-    ensures { Written out.old 0 (plan_text counts on rest) result out.new }
+#[tactic(auto, unfolding(crate::specs::Opening::plan_text, crate::specs::Opening::plan_template, layout::specs::Numbers::ascii))]
+fn put_plan(writer: &mut Writer<'_>, counts: Counts, on: bool, rest: u32)
+    ensures { Adds writer.old writer.new (plan_text counts on rest) }
 {
     let which = bit(on);
     let values = [
@@ -68,50 +56,44 @@ fn put_plan(out: &mut [u8], counts: Counts, on: bool, rest: u32) -> usize
         rest as u64,
         rest as u64,
     ];
-    put_template(
-        out,
-        0,
+    writer.put_template(
         b"plan      @@@ bytes, @@ orders, @@@ words\n\
         start     {the state that was left before|power-on}\n\
         passed    @@@@ ticks, %%%%% s, until the head was idle and nothing moved\n",
         &values,
         &values,
-    )
+    );
 }
 
 // Flags and settings of the state then, and the titles of the columns.
-fn put_start(out: &mut [u8], at: usize, flags: FlagBits, settings: Settings) -> usize
-    ensures { Written out.old at (start_text flags settings) result out.new }
+fn put_start(writer: &mut Writer<'_>, flags: FlagBits, settings: Settings)
+    ensures { Adds writer.old writer.new (start_text flags settings) }
 {
     let raised = flag_values(flags);
-    let groups = put_template(
-        out,
-        at,
+    writer.put_template(
         b"flags    { none|}{| IR time}{| IR word}{| scan}{| VIS time}{| VIS word}\nsettings at the start\n",
         &raised,
         &raised,
     );
-    let titles = put_settings(out, groups, settings, settings);
-    put_template(
-        out,
-        titles,
+    put_settings(writer, settings, settings);
+    writer.put_template(
         b"\norder     tick   seconds  what the head does; * marks what is new since the exposure before\n",
         &[],
         &[],
-    )
+    );
 }
 
 // The counts of the plan, the state that was given, the ticks until it was idle and at rest, and the state then.
 pub(crate) fn put_opening(
-    out: &mut [u8],
+    writer: &mut Writer<'_>,
     counts: Counts,
     given: Head,
     rest: u32,
     start: Head,
-) -> usize
-    ensures { Written out.old 0 (opening_text counts given rest start) result out.new }
+)
+    ensures { Adds writer.old writer.new (opening_text counts given rest start) }
 {
     let on = is_power_on(given);
-    let flags = put_plan(out, counts, on, rest);
-    put_start(out, flags, start.flags, start.settings)
+    put_plan(writer, counts, on, rest);
+    put_start(writer, start.flags, start.settings);
 }

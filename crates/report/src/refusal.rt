@@ -1,10 +1,10 @@
 // A refusal in words: number, rule, place, and the index of the order.
 ghost use Rattle.std.specs.Prelude.{◌≡◌};
-ghost use Rattle.layout.specs.Written.{Written};
+ghost use Rattle.layout.specs.Adds.{Adds};
 ghost use Rattle.report.specs.Refusal.{order_index, refusal_text};
 
 use layout::numbers::bit;
-use layout::template::put_template;
+use layout::writer::Writer;
 use plan::stored::{HEADER, byte_at};
 
 // The index, counted from 1, of the order whose length byte is at a place; at most 65.
@@ -12,19 +12,18 @@ fn order_index(plan: &[u8], place: usize) -> usize
     ensures { result ≡ order_index plan.now place }
 {
     let mut at: usize = HEADER;
-    let mut index: usize = 1;
-    while index < 65 {
+    for index in 1..65 {
         if place <= at {
             return index;
         }
         at = at + 1 + byte_at(plan, at) as usize;
-        index = index + 1;
     }
-    index
+    65
 }
 
-pub fn put_refusal(out: &mut [u8], at: usize, number: u8, place: usize, plan: &[u8]) -> usize
-    ensures { Written out.old at (refusal_text number place plan.now) result out.new }
+#[tactic(auto, unfolding(crate::specs::Refusal::refusal_text, crate::specs::Refusal::refusal_template, layout::specs::Numbers::ascii))]
+pub fn put_refusal(writer: &mut Writer<'_>, number: u8, place: usize, plan: &[u8])
+    ensures { Adds writer.old writer.new (refusal_text number place plan.now) }
 {
     let order = bit((5 <= number) & (number <= 9));
     let values = [
@@ -34,9 +33,7 @@ pub fn put_refusal(out: &mut [u8], at: usize, number: u8, place: usize, plan: &[
         order,
         order_index(plan, place) as u64,
     ];
-    put_template(
-        out,
-        at,
+    writer.put_template(
         b"refused @@@: {|the state is out of range, busy, or something moves\
         |fewer than 3 bytes\
         |the version is not 1\
@@ -49,5 +46,5 @@ pub fn put_refusal(out: &mut [u8], at: usize, number: u8, place: usize, plan: &[
         |a buffer is too short} (byte @@@@@@@@@@@@@@@@@@@@{|, order @@})\n",
         &values,
         &values,
-    )
+    );
 }

@@ -1,14 +1,14 @@
 -- Document 01, "Examples": the listing of a plan, and what the listing program prints for the bytes that it reads.
 -- Assumes nothing.
-use Rattle.std.specs.Prelude.{ℕ, cond, List, ◌++◌, ltb, length}
+use Rattle.std.specs.Prelude.{ℕ, cond, List, ◌++◌, ltb, length, Result, Ok, Err}
 use Rattle.head.specs.State.{power_on}
 use Rattle.head.specs.declared.state.Head.{Head}
 use Rattle.plan.specs.Stored.{plan_of}
 use Rattle.schedule.specs.Schedule.{Schedule}
-use Rattle.schedule.specs.Translate.{most_words, schedule_of, translate_of, filled, tick_list, word_list, translated_number, translated_place}
-use Rattle.schedule.specs.declared.Translated.{Translated}
+use Rattle.schedule.specs.Translate.{most_words, schedule_of, translate_of, filled, tick_list, word_list, translate_error_number, translate_error_place}
+use Rattle.schedule.specs.declared.Translation.{Translation}
+use Rattle.schedule.specs.declared.TranslateError.{TranslateError}
 use Rattle.text.specs.Lines.{head_line, word_lines, end_line, refusal_line, too_long_line}
-use Rattle.text.specs.declared.listing.Listed.{Listed}
 
 -- Ticks with their words, and the end.
 unfoldable pub listing_of : List ℕ → List ℕ → ℕ → List ℕ
@@ -23,22 +23,21 @@ unfoldable pub plan_text : Head → List ℕ → List ℕ
 plan_text s bs = schedule_text (schedule_of s (plan_of bs))
 
 -- The refusal's number of document 01, 0 for none, and its byte place.
-abbrev pub listing_number : Listed → ℕ
-listing_number (Listed.Done n) = 0
-listing_number (Listed.Refused n p) = n
+abbrev pub listing_number : Result ℕ TranslateError → ℕ
+listing_number (Ok n) = 0
+listing_number (Err e) = translate_error_number e
 
-abbrev pub listing_place : Listed → ℕ
-listing_place (Listed.Done n) = 0
-listing_place (Listed.Refused n p) = p
+abbrev pub listing_place : Result ℕ TranslateError → ℕ
+listing_place (Ok n) = 0
+listing_place (Err e) = translate_error_place e
 
 -- What an answer of translation gives, where the listing has so many bytes.
-unfoldable pub listed_by : Translated → ℕ → Listed
-listed_by (Translated.Done n e) long = Listed.Done long
-listed_by (Translated.Refused n p) long = Listed.Refused n p
-listed_by (Translated.Short n) long = Listed.Refused (translated_number (Translated.Short n)) (translated_place (Translated.Short n))
+unfoldable pub listed_by : Result Translation TranslateError → ℕ → Result ℕ TranslateError
+listed_by (Ok t) long = Ok long
+listed_by (Err e) long = Err e
 
 -- The answer for a head and a plan; there is room for the words of every plan.
-unfoldable pub listed_of : Head → List ℕ → Listed
+unfoldable pub listed_of : Head → List ℕ → Result ℕ TranslateError
 listed_of s bs = listed_by (translate_of s bs most_words most_words) (length (plan_text s bs))
 
 -- The bytes after it: the listing at the front, and every other place as it was; a refusal writes nothing.
@@ -46,9 +45,9 @@ unfoldable pub listed_after : Head → List ℕ → List ℕ → List ℕ
 listed_after s bs old = filled (translate_of s bs most_words most_words) (plan_text s bs) old
 
 -- What is printed of an answer.
-unfoldable pub answer_text : Listed → List ℕ → List ℕ
-answer_text (Listed.Done n) text = text
-answer_text (Listed.Refused n p) text = refusal_line n p
+unfoldable pub answer_text : Result ℕ TranslateError → List ℕ → List ℕ
+answer_text (Ok n) text = text
+answer_text (Err e) text = refusal_line (translate_error_number e) (translate_error_place e)
 
 -- At most 4,096 bytes are read, and power-on is the state.
 unfoldable pub printed_for : List ℕ → List ℕ

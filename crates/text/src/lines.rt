@@ -1,74 +1,68 @@
 // The lines that the listing program prints.
 ghost use Rattle.std.specs.Prelude.{◌≤◌, length, take};
-ghost use Rattle.layout.specs.Written.{Written, Front};
+ghost use Rattle.layout.specs.Adds.{Adds};
+ghost use Rattle.layout.specs.Written.{Front};
 ghost use Rattle.text.specs.Lines.{timed_text, word_line, word_lines, end_line, refusal_line};
 
-use layout::bytes::{put_bytes, within};
-use layout::numbers::{hex4, put_decimal, put_named};
+use layout::numbers::hex4;
+use layout::writer::Writer;
 
 // A tick and its word.
-pub fn put_timed(out: &mut [u8], at: usize, tick: u64, word: u16) -> usize
-    ensures { Written out.old at (timed_text tick word) result out.new }
+pub fn put_timed(writer: &mut Writer<'_>, tick: u64, word: u16)
+    ensures { Adds writer.old writer.new (timed_text tick word) }
 {
-    let after_tick = put_decimal(out, at, tick);
-    let digits = put_bytes(out, after_tick, b" ");
-    put_bytes(out, digits, &hex4(word))
+    writer.put_decimal(tick);
+    writer.put_bytes(b" ");
+    writer.put_bytes(&hex4(word));
 }
 
 // The same as a line.
-pub fn put_timed_line(out: &mut [u8], at: usize, tick: u64, word: u16) -> usize
-    ensures { Written out.old at (word_line tick word) result out.new }
+pub fn put_timed_line(writer: &mut Writer<'_>, tick: u64, word: u16)
+    ensures { Adds writer.old writer.new (word_line tick word) }
 {
-    let after = put_timed(out, at, tick, word);
-    put_bytes(out, after, b"\n")
+    put_timed(writer, tick, word);
+    writer.put_bytes(b"\n");
 }
 
-fn put_word_line(out: &mut [u8], at: usize, tick: u32, word: u16) -> usize
-    ensures { Written out.old at (word_line tick word) result out.new }
+fn put_word_line(writer: &mut Writer<'_>, tick: u32, word: u16)
+    ensures { Adds writer.old writer.new (word_line tick word) }
 {
-    put_timed_line(out, at, tick as u64, word)
+    put_timed_line(writer, u64::from(tick), word);
 }
 
 // A line for each of the first count ticks and words.
-pub(crate) fn put_word_lines(
-    out: &mut [u8],
-    at: usize,
-    ticks: &[u32],
-    words: &[u16],
-    count: usize,
-) -> usize
+pub(crate) fn put_word_lines(writer: &mut Writer<'_>, ticks: &[u32], words: &[u16], count: usize)
     requires fact_1 { count ≤ length ticks.now }
     requires fact_2 { count ≤ length words.now }
-    ensures { Written out.old at (word_lines (take count ticks.now) (take count words.now)) result out.new }
+    ensures { Adds writer.old writer.new (word_lines (take count ticks.now) (take count words.now)) }
 {
-    let mut place = within(at, out.len());
-    let mut i: usize = 0;
-    while i < count {
-        place = put_word_line(out, place, ticks[i], words[i]);
-        i = i + 1;
+    // An index for the two lists: the invariant of a `zip` would speak of its iterators, which is no plainer.
+    for i in 0..count {
+        put_word_line(writer, ticks[i], words[i]);
     }
-    place
 }
 
 // The end of a plan.
-pub(crate) fn put_end_line(out: &mut [u8], at: usize, end: u32) -> usize
-    ensures { Written out.old at (end_line end) result out.new }
+pub(crate) fn put_end_line(writer: &mut Writer<'_>, end: u32)
+    ensures { Adds writer.old writer.new (end_line end) }
 {
-    let after = put_named(out, at, b"end ", end as u64);
-    put_bytes(out, after, b"\n")
+    writer.put_named(b"end ", u64::from(end));
+    writer.put_bytes(b"\n");
 }
 
-pub fn put_refusal_line(out: &mut [u8], at: usize, number: u8, place: usize) -> usize
-    ensures { Written out.old at (refusal_line number place) result out.new }
+pub fn put_refusal_line(writer: &mut Writer<'_>, number: u8, place: usize)
+    ensures { Adds writer.old writer.new (refusal_line number place) }
 {
-    let after_number = put_named(out, at, b"refused ", number as u64);
-    let after_place = put_named(out, after_number, b" at ", place as u64);
-    put_bytes(out, after_place, b"\n")
+    writer.put_named(b"refused ", u64::from(number));
+    writer.put_named(b" at ", place as u64);
+    writer.put_bytes(b"\n");
 }
 
 // The line of a refusal by itself; the answer is its length.
 pub fn refusal_line(number: u8, place: usize, out: &mut [u8; 64]) -> usize
     ensures { Front out.old (refusal_line number place) result out.new }
 {
-    put_refusal_line(out, 0, number, place)
+    let mut writer = Writer::new(out);
+    put_refusal_line(&mut writer, number, place);
+    writer.len()
 }

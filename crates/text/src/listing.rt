@@ -7,9 +7,9 @@ ghost use Rattle.text.specs.Listing.{listing_of, listing_number, listing_place, 
 
 use crate::lines::{put_end_line, put_refusal_line, put_word_lines};
 use head::state::Head;
-use layout::bytes::put_bytes;
+use layout::writer::Writer;
+use schedule::TranslateError;
 use schedule::translate::{MOST_WORDS, translate};
-use schedule::{BUFFER_SHORT, Translated};
 
 // The most bytes that the listing program takes.
 pub const MOST_INPUT: usize = 4096;
@@ -17,50 +17,27 @@ pub const MOST_INPUT: usize = 4096;
 // Room for the listing of every plan.
 pub const LONGEST: usize = 8192;
 
-// What listing a plan answers.
-#[derive(Clone, Copy)]
-pub enum Listed {
-    // The number of bytes.
-    Done { length: usize },
-    // The number of document 01's refusal table, and the byte place.
-    Refused { number: u8, place: usize },
-}
-
-impl Listed {
-    // The refusal's number, 0 for none.
-    pub fn number(self) -> u8
-        ensures { result ≡ listing_number self }
-    {
-        match self {
-            Listed::Done { length: _ } => 0,
-            Listed::Refused { number, place: _ } => number,
-        }
-    }
-
-    // The refusal's byte place, 0 for none.
-    pub fn place(self) -> usize
-        ensures { result ≡ listing_place self }
-    {
-        match self {
-            Listed::Done { length: _ } => 0,
-            Listed::Refused { number: _, place } => place,
-        }
-    }
-}
-
 // The first count ticks and words, and the end.
-fn put_listing(out: &mut [u8], ticks: &[u32], words: &[u16], count: usize, end: u32) -> usize
+fn put_listing(
+    out: &mut [u8; LONGEST],
+    ticks: &[u32],
+    words: &[u16],
+    count: usize,
+    end: u32,
+) -> usize
     requires fact_1 { count ≤ length ticks.now }
     requires fact_2 { count ≤ length words.now }
     ensures { Written out.old 0 (listing_of (take count ticks.now) (take count words.now) end) result out.new }
 {
-    let lines = put_bytes(out, 0, b"tick word\n");
-    let last = put_word_lines(out, lines, ticks, words, count);
-    put_end_line(out, last, end)
+    let mut writer = Writer::new(out);
+    writer.put_bytes(b"tick word\n");
+    put_word_lines(&mut writer, ticks, words, count);
+    put_end_line(&mut writer, end);
+    writer.len()
 }
 
-// The listing of a plan for a head, at the front; a refusal writes nothing.
-pub fn list_plan(head: Head, plan: &[u8], out: &mut [u8; LONGEST]) -> Listed
+// The listing of a plan for a head, at the front, and the number of its bytes; a refusal writes nothing.
+pub fn list_plan(head: Head, plan: &[u8], out: &mut [u8; LONGEST]) -> Result<usize, TranslateError>
     ensures value { result ≡ listed_of head plan.now }
     ensures out_after { out.new ≡ listed_after head plan.now out.old }
     ensures result_value { listing_number result ≡ translation_number head plan.now most_words most_words }
@@ -68,20 +45,11 @@ pub fn list_plan(head: Head, plan: &[u8], out: &mut [u8; LONGEST]) -> Listed
 {
     let mut words = [0u16; MOST_WORDS];
     let mut ticks = [0u32; MOST_WORDS];
-    let answer = translate(head, plan, &mut words, &mut ticks);
-    match answer {
-        Translated::Done { count, end } => Listed::Done {
-            length: put_listing(out, &ticks, &words, count, end),
-        },
-        Translated::Refused { number, place } => Listed::Refused { number, place },
-        Translated::Short { count: _ } => Listed::Refused {
-            number: BUFFER_SHORT,
-            place: 0,
-        },
-    }
+    let made = translate(head, plan, &mut words, &mut ticks)?;
+    Ok(put_listing(out, &ticks, &words, made.count, made.end))
 }
 
-fn list_at_power_on(plan: &[u8], out: &mut [u8; LONGEST]) -> Listed
+fn list_at_power_on(plan: &[u8], out: &mut [u8; LONGEST]) -> Result<usize, TranslateError>
     ensures value { result ≡ listed_of power_on plan.now }
     ensures out_after { out.new ≡ listed_after power_on plan.now out.old }
 {
@@ -93,11 +61,16 @@ pub fn listing(plan: &[u8], out: &mut [u8; LONGEST]) -> usize
     ensures { Front out.old (printed_for plan.now) result out.new }
 {
     if MOST_INPUT < plan.len() {
-        return put_bytes(out, 0, b"input too long\n");
+        let mut writer = Writer::new(out);
+        writer.put_bytes(b"input too long\n");
+        return writer.len();
     }
-    let answer = list_at_power_on(plan, out);
-    match answer {
-        Listed::Done { length } => length,
-        Listed::Refused { number, place } => put_refusal_line(out, 0, number, place),
+    match list_at_power_on(plan, out) {
+        Ok(length) => length,
+        Err(error) => {
+            let mut writer = Writer::new(out);
+            put_refusal_line(&mut writer, error.number(), error.place());
+            writer.len()
+        }
     }
 }

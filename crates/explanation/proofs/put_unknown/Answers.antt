@@ -1,9 +1,9 @@
 -- `explanation::put_unknown` meets its contract.
 use Rattle.layout.specs.Numbers.{ascii}
-use Rattle.explanation.proofs.Wording.{written-unknown}
-use borrow.Author.Rules.{rules}
+use Rattle.layout.proofs.Adding.{adds_then}
+use Rattle.explanation.specs.Explanation.{unknown_text}
 use Rattle.explanation.proofs.put_unknown.Goals as goal
 
 pub returns : goal.returns
-unfolding ascii
-returns c = search (rules, written-unknown)
+unfolding unknown_text ascii
+returns c = adds_then c.put_word.ensures c.put_byte.ensures

@@ -1,4 +1,4 @@
--- `names::table::any_allowed` meets its contract. The loop's invariant: whether any word below the next one is allowed.
+-- `names::table::any_allowed` meets its contract.
 use Rattle.names.proofs.Ranges.{any-first, any_next, any-done}
 use borrow.Author.Rules.{rules}
 use Rattle.names.proofs.table.any_allowed.Goals as goal

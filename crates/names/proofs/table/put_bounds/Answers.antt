@@ -1,6 +1,5 @@
--- `names::table::put_bounds` meets its contract. The loop's invariant: the bounds below the next word are written.
+-- `names::table::put_bounds` meets its contract.
 use Rattle.layout.proofs.Below.{texts-first, texts-next, texts-done}
-use Rattle.layout.proofs.Writing.{written-long}
 use borrow.Author.Rules.{rules}
 use Rattle.names.proofs.table.put_bounds.Goals as goal
 
@@ -9,9 +8,6 @@ loop-low-init c = search (rules, texts-first)
 
 pub loop-low-preserved : goal.loop-low-preserved
 loop-low-preserved c = search (rules, texts-next)
-
-pub shape_of-out : goal.shape_of-out
-shape_of-out c = written-long c.loop-low.invariant.part
 
 pub returns : goal.returns
 returns c = search (rules, texts-done)

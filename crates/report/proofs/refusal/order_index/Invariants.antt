@@ -1,10 +1,6 @@
 -- `report::refusal::order_index` meets its contract. The loop's invariant: no order before this one is the one that is looked for.
-use Prim.Native.Nat.{◌-◌}
 use Rattle.report.proofs.Indexing.{Counting}
 use Rattle.report.proofs.refusal.order_index.Given as goal
 
 abbrev pub invariant-loop-index : goal.invariant-loop-index
 invariant-loop-index l = Counting l.plan l.place l.at l.index
-
-abbrev pub decreases-loop-index : goal.decreases-loop-index
-decreases-loop-index l = 65 - l.index

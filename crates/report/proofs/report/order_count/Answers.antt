@@ -1,10 +1,8 @@
 -- `report::report::order_count` meets its contract.
-use Rattle.report.proofs.Values.{count-accepted, count-refused}
-use borrow.Author.Rules.{rules}
+use mathlib.Core.Path.{◌∙◌}
+use Rattle.plan.specs.Stored.{plan_of}
+use Rattle.report.proofs.Values.{order-count}
 use Rattle.report.proofs.report.order_count.Goals as goal
 
-pub returns-in-Accepted : goal.returns-in-Accepted
-returns-in-Accepted c = search (rules, count-accepted)
-
-pub returns-in-Refused : goal.returns-in-Refused
-returns-in-Refused c = search (rules, count-refused)
+pub returns : goal.returns
+returns c = c.unwrap_or.ensures ∙ rw c.judge.ensures.value (order-count (plan_of c.args.plan.now))

@@ -1,7 +1,8 @@
 -- `report::report::put_report` meets its contract: opening, orders and ending.
-use Rattle.report.proofs.Parts.{written-text}
-use borrow.Author.Rules.{rules}
+use Rattle.layout.proofs.Adding.{adds_three}
+use Rattle.report.specs.Report.{text_of}
 use Rattle.report.proofs.report.put_report.Goals as goal
 
 pub returns : goal.returns
-returns c = search (rules, written-text)
+unfolding text_of
+returns c = adds_three (rw c.order_count-orders.ensures at c.put_opening.ensures) c.put_orders.ensures c.put_ending.ensures

@@ -1,9 +1,9 @@
 -- `text::lines::put_end_line` meets its contract.
 use Rattle.layout.specs.Numbers.{ascii}
-use Rattle.text.proofs.Printing.{end_line_lem}
-use borrow.Author.Rules.{rules}
+use Rattle.layout.proofs.Adding.{adds_then}
+use Rattle.text.specs.Lines.{end_text, end_line}
 use Rattle.text.proofs.lines.put_end_line.Goals as goal
 
 pub returns : goal.returns
-unfolding ascii
-returns c = search (rules, end_line_lem)
+unfolding end_line end_text ascii
+returns c = adds_then (rw c.from.ensures at c.put_named.ensures) c.put_bytes.ensures

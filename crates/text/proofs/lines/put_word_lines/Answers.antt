@@ -1,4 +1,4 @@
--- `text::lines::put_word_lines` meets its contract. The loop's invariant: the lines from the ith on are left.
+-- `text::lines::put_word_lines` meets its contract.
 use Rattle.text.proofs.Printing.{printing-first, printing-next, printed}
 use borrow.Author.Rules.{rules}
 use Rattle.text.proofs.lines.put_word_lines.Goals as goal
@@ -8,9 +8,6 @@ loop-i-init c = search (rules, printing-first)
 
 pub loop-i-preserved : goal.loop-i-preserved
 loop-i-preserved c = search (rules, printing-next)
-
-pub shape_of-out : goal.shape_of-out
-shape_of-out c = c.loop-i.invariant.part.long
 
 pub returns : goal.returns
 returns c = search (rules, printed)

@@ -1,40 +1,39 @@
 -- `text::listing::list_plan` meets its contract.
 use mathlib.Core.Path.{◌≡◌}
 use borrow.Author.Rules.{rules}
+use Rattle.std.specs.Prelude.{Ok}
+use Rattle.std.proofs.lemmas.Result.{err_from_is_err_and}
 use Rattle.text.specs.Listing.{listed_of}
-use Rattle.text.specs.declared.listing.Listed.{Listed}
-use Rattle.text.proofs.Ways.{number-of, place-of, of-refused, after-refused, of-short, after-short, done-few, of-done, after-done}
+use Rattle.text.proofs.Ways.{number-of, place-of, of-refused, after-refused, done-few, of-done, after-done}
 use Rattle.text.proofs.listing.list_plan.Goals as goal
 
+pub returns-in_err-made : goal.returns-in_err-made
+returns-in_err-made c =
+    let a = c.args in
+    let t = c.translate.ensures.value in
+    let p = err_from_is_err_and c.from_residual.result c.from_residual.ensures.1 in
+    let is : c.from_residual.result ≡ listed_of a.head a.plan.now = rw (p.1, p.2) (of-refused a.head a.plan.now t c.in_err-made.was) in
+    record {
+      value = is;
+      out_after = after-refused a.head a.plan.now t c.in_err-made.was _;
+      result_value = number-of _ _ is;
+      result_value_2 = place-of _ _ is;
+    }
+
 pub put_listing-requires : goal.put_listing-requires
-put_listing-requires c = search (rules, done-few)
+put_listing-requires c =
+    let few = done-few c.args.head c.args.plan.now c.translate.ensures.value c.in_ok-made.was in
+    record { fact_1 = few _ (search rules); fact_2 = few _ (search rules) }
 
-pub returns-in-Done : goal.returns-in-Done
-returns-in-Done c =
-    let is : Listed.Done c.put_listing.result ≡ listed_of c.args.head c.args.plan.now = search (rules, of-done) in
+pub returns : goal.returns
+returns c =
+    let a = c.args in
+    let t = c.translate.ensures in
+    let is : Ok c.put_listing.result ≡ listed_of a.head a.plan.now =
+    of-done a.head a.plan.now t.value c.in_ok-made.was _ _ t.ticks_after t.words_after c.put_listing.ensures (search rules) in
     record {
       value = is;
-      out_after = search (rules, after-done);
-      result_value = number-of _ _ is;
-      result_value_2 = place-of _ _ is;
-    }
-
-pub returns-in-Refused : goal.returns-in-Refused
-returns-in-Refused c =
-    let is : Listed.Refused c.in-Refused.number c.in-Refused.place ≡ listed_of c.args.head c.args.plan.now = search (rules, of-refused) in
-    record {
-      value = is;
-      out_after = search (rules, after-refused);
-      result_value = number-of _ _ is;
-      result_value_2 = place-of _ _ is;
-    }
-
-pub returns-in-Short : goal.returns-in-Short
-returns-in-Short c =
-    let is : Listed.Refused 10 0 ≡ listed_of c.args.head c.args.plan.now = search (rules, of-short) in
-    record {
-      value = is;
-      out_after = search (rules, after-short);
+      out_after = after-done a.head a.plan.now t.value c.in_ok-made.was _ _ t.ticks_after t.words_after c.put_listing.ensures (search rules);
       result_value = number-of _ _ is;
       result_value_2 = place-of _ _ is;
     }
