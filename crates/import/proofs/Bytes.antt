@@ -10,13 +10,6 @@ use Rattle.words.proofs.Tests.{and_left}
 use Rattle.import.specs.Line.{upper, digit_value}
 
 module _ (b : ℕ) where
-  pub upper-letter : (leb 97 b && leb b 102) ≡ true → b - 32 ≡ upper b
-  unfolding upper
-  upper-letter e = rw e
-
-  pub letter-above : (leb 97 b && leb b 102) ≡ true → 32 ≤ b
-  letter-above e = omega (arith, leb-true 97 b (and_left (leb 97 b) (leb b 102) e))
-
   pub upper-other : (leb 97 b && leb b 102) ≡ false → b ≡ upper b
   unfolding upper
   upper-other e = rw e
@@ -36,12 +29,6 @@ module _ (b : ℕ) where
       go : (z : Bool) → cond z (b - 32) b < 256
       go true = omega arith
       go false = h
-
-  pub value-below : b < 48 → 0 ≡ digit_value b
-  unfolding digit_value
-  value-below h =
-      let z : b - 48 ≡ 0 = omega arith in
-      rw (lt-ltb b 65 (omega arith), z)
 
   pub value-digit : b < 65 → b - 48 ≡ digit_value b
   unfolding digit_value

@@ -16,19 +16,18 @@ grown-small {base} {n} h k = let p : base * n ≤ 16 * n = mul-le-mul_right n h 
 
 -- the digits from the ith on are left
 pub record Counting (base : ℕ) (digits : List ℕ) (n i : ℕ) : Type 0 where
-  pub few : i ≤ length digits
   pub small : n ≤ tick_limit
   pub left : value_from base 0 digits ≡ value_from base n (drop i digits)
 
 pub counting-first : {base : ℕ} {digits : List ℕ} → Counting base digits 0 0
-counting-first = record { few = omega arith; small = omega arith; left = refl }
+counting-first = record { small = omega arith; left = refl }
 
 module _ {base : ℕ} {digits : List ℕ} {n i : ℕ} (h : Counting base digits n i) where
   pub counting-next : i < length digits → {m : ℕ} → m ≡ min (base * n + digit_value (get_or digits i 0)) tick_limit
       → Counting base digits m (i + 1)
   unfolding value_from
   counting-next more e =
-      record { few = omega arith; small = omega arith; left = h.left ∙ rw (drop-cons digits i 0 more, add-one i, e) }
+      record { small = omega arith; left = h.left ∙ rw (drop-cons digits i 0 more, add-one i, e) }
 
   pub counted : length digits ≤ i → n ≡ value_from base 0 digits
   unfolding value_from

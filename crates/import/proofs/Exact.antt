@@ -11,10 +11,10 @@ use Rattle.words.proofs.Tests.{and_right}
 use Rattle.text.specs.Lines.{head_text, timed_text, end_text}
 use Rattle.import.specs.Line.{is_text, tick_limit, word_limit, tick_in, word_in, end_in, reads_timed, reads_end, line_of}
 use Rattle.import.specs.Read.{lines, word_of, tick_of, import_of, words_in, ticks_in}
-use Rattle.import.specs.declared.line.Line.TheVariants.{Word, End, Other}
-use Rattle.import.specs.declared.read.Import.TheVariants.{Done}
+use Rattle.import.specs.declared.line.Line.TheVariants.{Word, End}
 use Rattle.import.proofs.Body.{Listed, none, last, word, accepted}
 use Rattle.import.proofs.Lists.{words-read, ticks-read}
+use Rattle.std.specs.Prelude.{Some, None, Ok}
 
 -- a line for each tick and its word, and at most one more, an end's
 pub data Exactly : List (List ℕ) → List ℕ → List ℕ → Type 0 where
@@ -32,12 +32,12 @@ pub record Exact (text : List ℕ) : Type 0 where
   pub exactly : Exactly rest (ticks_in text) (words_in text)
 
 module _ (l : List ℕ) where
-  word-exact : {t w : ℕ} → line_of l ≡ Word t w → is_text l (timed_text t w) ≡ true
+  word-exact : {t w : ℕ} → line_of l ≡ Some (Word t w) → is_text l (timed_text t w) ≡ true
   unfolding line_of reads_timed
   word-exact {t} {w} e = go (reads_timed l (tick_in l) (word_in l)) refl (reads_end l (end_in l)) e
     where
       go : (a : Bool) → reads_timed l (tick_in l) (word_in l) ≡ a → (b : Bool)
-          → cond a (Word (tick_in l) (word_in l)) (cond b (End (end_in l)) Other) ≡ Word t w → is_text l (timed_text t w) ≡ true
+          → cond a (Some (Word (tick_in l) (word_in l))) (cond b (Some (End (end_in l))) None) ≡ Some (Word t w) → is_text l (timed_text t w) ≡ true
       go true x b e =
           let tick : tick_in l ≡ t = cc in
           let word : word_in l ≡ w = cc in
@@ -46,11 +46,11 @@ module _ (l : List ℕ) where
       go false x true e = absurd (let z : ◌≡◌ {A = ℕ} 0 1 = cc in omega arith)
       go false x false e = absurd (let z : ◌≡◌ {A = ℕ} 0 1 = cc in omega arith)
 
-  end-exact : {t : ℕ} → line_of l ≡ End t → is_text l (end_text t) ≡ true
+  end-exact : {t : ℕ} → line_of l ≡ Some (End t) → is_text l (end_text t) ≡ true
   unfolding line_of reads_end
   end-exact {t} e = go (reads_timed l (tick_in l) (word_in l)) (reads_end l (end_in l)) refl e
     where
-      go : (a b : Bool) → reads_end l (end_in l) ≡ b → cond a (Word (tick_in l) (word_in l)) (cond b (End (end_in l)) Other) ≡ End t
+      go : (a b : Bool) → reads_end l (end_in l) ≡ b → cond a (Some (Word (tick_in l) (word_in l))) (cond b (Some (End (end_in l))) None) ≡ Some (End t)
           → is_text l (end_text t) ≡ true
       go true b x e = absurd (let z : ◌≡◌ {A = ℕ} 0 1 = cc in omega arith)
       go false true x e =
@@ -65,7 +65,7 @@ listed-exact (last {l = l} {t = t} is h) = ends t (end-exact l is)
 listed-exact (word {l = l} is h r) = rw is (more (word-exact l is) (listed-exact r))
 
 -- each line reads, byte by byte, as what is printed
-pub nothing-guessed : (text : List ℕ) {n : ℕ} → import_of text ≡ Done n → Exact text
+pub nothing-guessed : (text : List ℕ) {n : ℕ} → import_of text ≡ Ok n → Exact text
 nothing-guessed text e =
     let a = accepted text e in
     record {

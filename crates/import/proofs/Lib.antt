@@ -3,7 +3,6 @@ pub mod Comparing
 pub mod Counting
 pub mod Reading
 pub mod Judging
-pub mod Scanning
 pub mod Lines
 pub mod Whole
 pub mod Filling

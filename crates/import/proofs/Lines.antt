@@ -4,14 +4,22 @@ use mathlib.Core.Path.{◌≡◌, refl, sym, ap, ◌∙◌}
 use mathlib.Core.Bool.{Bool, true, false, cond}
 use mathlib.Core.List.{List, [], ◌∷◌}
 use Prim.Native.Nat.{ℕ, suc, ◌+◌, ◌-◌, ◌≤◌, ◌<◌}
+use borrow.Author.Tests.{ltb-true, ltb-false}
 use native.Mathlib.Nat.{lt_irrefl}
 use native.Mathlib.Numerals.{add-one}
 use native.Mathlib.Omega.{arith}
-use lib.Dec.{eqb}
+use lib.Dec.{eqb, ltb}
 use lib.ListN.{length, take, drop, length-drop, drop_of_length-le}
-use lib.Seq.{drop-drop}
-use Rattle.import.specs.FirstLine.{first_line}
+use lib.Seq.{take_all}
+use Rattle.std.specs.Prelude.{Option, Some, None, position}
+use Rattle.std.specs.List.{position_or_len}
+use Rattle.std.proofs.lemmas.List.Recursion.{is_position_or_len}
 use Rattle.import.specs.Read.{before, lines}
+
+-- the bytes before the first newline, or all
+unfoldable pub first_line : List ℕ → List ℕ
+first_line [] = []
+first_line (c ∷ cs) = cond (eqb c 10) [] (c ∷ first_line cs)
 
 drop-next : (k c : ℕ) (l : List ℕ) → drop (suc k + 1) (c ∷ l) ≡ drop (k + 1) l
 drop-next k c l = rw (add-one (suc k), add-one k)
@@ -54,39 +62,76 @@ first_short (c ∷ cs) = go (eqb c 10) (first_short cs)
     go true e = omega arith
     go false e = omega arith
 
--- a line that begins within the text
-module _ (text : List ℕ) {at end : ℕ} (more : at < length text) (is : end ≡ at + length (first_line (drop at text))) where
-  pub ends-within : end ≤ length text
-  ends-within = omega (arith, first_short (drop at text), length-drop at text)
+-- the place of the first newline, as the code finds it
+module _ (l : List ℕ) where
+  abbrev Found : Option ℕ → Type 0
+  Found r = r ≡ position (λ c. eqb c 10) l
 
-  pub lines_at : lines (drop at text) ≡ take (end - at) (drop at text) ∷ lines (drop (end + 1) text)
-  lines_at =
-      let some : 0 < length (drop at text) = omega (arith, length-drop at text) in
-      let long : end - at ≡ length (first_line (drop at text)) = omega arith in
-      let after : at + (length (first_line (drop at text)) + 1) ≡ end + 1 = omega arith in
-      lines-first (drop at text) some
-      ∙ rw (long, first_taken (drop at text), drop-drop (length (first_line (drop at text)) + 1) at text, after)
+  first-length : length (first_line l) ≡ position_or_len (λ c. eqb c 10) l
+  unfolding first_line
+  first-length = is_position_or_len (λ (x : List ℕ). length (first_line x)) (λ c. eqb c 10) refl (λ c cs. go (eqb c 10) (first_line cs) c) l
+    where
+      go : (z : Bool) (x : List ℕ) (c : ℕ) → length (cond z [] (c ∷ x)) ≡ cond z 0 (1 + length x)
+      go true x c = refl
+      go false x c = omega arith
 
-pub lines_none : (text : List ℕ) {at : ℕ} → length text ≤ at → lines (drop at text) ≡ []
+  found-at : {n : ℕ} → Found (Some n) → (n ≡ length (first_line l)) × (n < length l)
+  found-at {n} is = go (ltb k (length l)) refl is
+    where
+      k : ℕ
+      k = position_or_len (λ c. eqb c 10) l
+
+      go : (z : Bool) → ltb k (length l) ≡ z → Some n ≡ cond z (Some k) None → (n ≡ length (first_line l)) × (n < length l)
+      go true e h = let same : n ≡ k = cc in (same ∙ sym first-length, omega (arith, ltb-true k (length l) e))
+      go false e h = absurd (cc)
+
+  found-none : Found None → length (first_line l) ≡ length l
+  found-none is = go (ltb k (length l)) refl is
+    where
+      k : ℕ
+      k = position_or_len (λ c. eqb c 10) l
+
+      go : (z : Bool) → ltb k (length l) ≡ z → None ≡ cond z (Some k) None → length (first_line l) ≡ length l
+      go true e h = absurd (cc)
+      go false e h = omega (arith, ltb-false k (length l) e, first-length, first_short l)
+
+  -- a line that ends with a newline
+  pub lines-found : {n : ℕ} → Found (Some n) → lines l ≡ take n l ∷ lines (take (length l - (n + 1)) (drop (n + 1) l))
+  lines-found {n} is =
+      let at = found-at is in
+      let all : take (length l - (n + 1)) (drop (n + 1) l) ≡ drop (n + 1) l =
+      take_all (length l - (n + 1)) (drop (n + 1) l) (omega (arith, length-drop (n + 1) l))
+      in
+      lines-first l (omega (arith, at.1)) ∙ rw (← at.0, all) (rw (at.0, first_taken l))
+
+  -- the last line, which lacks it
+  pub lines_last : (length l ≡ 0 → ⊥) → Found None → lines l ≡ l ∷ lines []
+  lines_last some is =
+      let long = found-none is in
+      lines-first l (omega arith)
+      ∙ rw (long, drop_of_length-le l {i = length l + 1} (omega arith)) (ap (λ (x : List ℕ). x ∷ lines []) (sym (first_taken l) ∙ rw long (take_all (length l) l (omega arith))))
+
+-- no line is left of an empty text
+pub lines_none : (l : List ℕ) → length l ≡ 0 → lines l ≡ []
 unfolding lines
-lines_none text h = rw (drop_of_length-le text h)
+lines_none [] h = refl
+lines_none (c ∷ cs) h = absurd (omega arith)
 
--- the lines counted: those before a place are
-pub record Passing (text : List ℕ) (count at : ℕ) : Type 0 where
-  pub few : count ≤ at
-  pub within : at ≤ length text + 1
-  pub left : length (lines text) ≡ count + length (lines (drop at text))
+-- the lines after the first are fewer
+pub lines_fewer : {ls ms : List (List ℕ)} {l : List ℕ} → ls ≡ l ∷ ms → length ms < length ls
+lines_fewer e = rw e (omega arith)
 
-pub passing-first : {text : List ℕ} → Passing text 0 0
-passing-first = record { few = omega arith; within = omega arith; left = omega arith }
+-- a text has at most as many lines as bytes
+before-long : (c : ℕ) (ls : List (List ℕ)) → length (before c ls) ≤ length ls + 1
+unfolding before
+before-long c [] = omega arith
+before-long c (l ∷ ls) = omega arith
 
-module _ {text : List ℕ} {count at : ℕ} (h : Passing text count at) where
-  pub passing-next : at < length text → {end : ℕ} → end ≡ at + length (first_line (drop at text)) → Passing text (count + 1) (end + 1)
-  passing-next more is =
-      let one = ap length (lines_at text more is) in
-      let left = h.left in
-      let few = h.few in
-      record { few = omega arith; within = omega (arith, ends-within text more is); left = omega arith }
-
-  pub passed : length text ≤ at → count ≡ length (lines text)
-  passed all = let none = ap length (lines_none text all) in let left = h.left in omega arith
+pub lines-few : (text : List ℕ) → length (lines text) ≤ length text
+unfolding lines
+lines-few [] = omega arith
+lines-few (c ∷ cs) = go (eqb c 10) (lines-few cs)
+  where
+    go : (z : Bool) → length (lines cs) ≤ length cs → length (cond z ([] ∷ lines cs) (before c (lines cs))) ≤ suc (length cs)
+    go true h = omega arith
+    go false h = omega (arith, before-long c (lines cs))

@@ -11,20 +11,20 @@ use Rattle.timed.specs.List.{rising, most_words, is_list}
 use Rattle.import.specs.Line.{line_of}
 use Rattle.import.specs.Read.{word_of, tick_of, word_lines_in, import_of, import_count, words_in, ticks_in}
 use Rattle.import.specs.declared.line.Line.{Line}
-use Rattle.import.specs.declared.read.Import.TheVariants.{Done}
 use Rattle.import.specs.declared.line.Line.TheVariants.{Word}
 use Rattle.import.proofs.Whole.{import-few}
 use Rattle.import.proofs.Body.{Listed, none, last, word, accepted}
+use Rattle.std.specs.Prelude.{Option, Some, Ok}
 
-listed-long : (f : Line → ℕ) {n least : ℕ} {ls : List (List ℕ)} → Listed n least ls → length (map f (map line_of (take n ls))) ≡ n
+listed-long : (f : Option Line → ℕ) {n least : ℕ} {ls : List (List ℕ)} → Listed n least ls → length (map f (map line_of (take n ls))) ≡ n
 listed-long f none = refl
 listed-long f (last is h) = refl
 listed-long f (word is h r) = ap suc (listed-long f r)
 
 -- the ticks of lines of which the first is a word's
-word-ticks : (n : ℕ) {t w : ℕ} (l : List ℕ) (ls : List (List ℕ)) → line_of l ≡ Word t w
+word-ticks : (n : ℕ) {t w : ℕ} (l : List ℕ) (ls : List (List ℕ)) → line_of l ≡ Some (Word t w)
     → map tick_of (map line_of (take (suc n) (l ∷ ls))) ≡ t ∷ map tick_of (map line_of (take n ls))
-word-ticks n l ls is = ap (λ (k : Line). tick_of k ∷ map tick_of (map line_of (take n ls))) is
+word-ticks n l ls is = ap (λ (k : Option Line). tick_of k ∷ map tick_of (map line_of (take n ls))) is
 
 rises-after : (t : ℕ) {n least : ℕ} {ls : List (List ℕ)} → Listed n least ls → least ≡ t + 1 → rising (t ∷ map tick_of (map line_of (take n ls))) ≡ true
 unfolding rising
@@ -39,8 +39,8 @@ rises none = refl
 rises (last is h) = refl
 rises (word {l = l} {ls = ls} {t = t} is h r) = ap rising (word-ticks _ l ls is) ∙ rises-after t r refl
 
-module _ (text : List ℕ) {n : ℕ} (e : import_of text ≡ Done n) where
-  numbers : (f : Line → ℕ) → map f (word_lines_in (import_count (import_of text)) text) ≡ map f (map line_of (take n (accepted text e).rest))
+module _ (text : List ℕ) {n : ℕ} (e : import_of text ≡ Ok n) where
+  numbers : (f : Option Line → ℕ) → map f (word_lines_in (import_count (import_of text)) text) ≡ map f (map line_of (take n (accepted text e).rest))
   unfolding word_lines_in
   numbers f = rw (e, (accepted text e).are)
 

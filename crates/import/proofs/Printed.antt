@@ -17,6 +17,7 @@ use Rattle.import.specs.Read.{before, lines}
 use Rattle.import.specs.declared.line.Line.TheVariants.{Word, End}
 use Rattle.import.proofs.Reading.{timed-reads, end_reads, line_word, line-end}
 use Rattle.import.proofs.Values.{decimal-value, word_value}
+use Rattle.std.specs.Prelude.{Some}
 
 -- a text reads as itself
 pub same_text : (l : List ℕ) → is_text l l ≡ true
@@ -47,7 +48,7 @@ module _ (t w : ℕ) where
       let split : timed_text t w ≡ (decimal_of t ++ (32 ∷ [])) ++ hex_of w = timed-before ∙ sym (append_assoc (decimal_of t) (32 ∷ []) (hex_of w)) in
       rw (front, split, drop_at (decimal_of t ++ (32 ∷ [])) (hex_of w) (length (decimal_of t ++ (32 ∷ []))) refl) (word_value w h)
 
-  pub timed-line : t < tick_limit → w < word_limit → line_of (timed_text t w) ≡ Word t w
+  pub timed-line : t < tick_limit → w < word_limit → line_of (timed_text t w) ≡ Some (Word t w)
   timed-line h k =
       let reads = timed-reads (timed_text t w) t w h k refl in
       sym (line_word (timed_text t w) (sym (tick-back h)) (sym (word_back k)) reads (same_text (timed_text t w)))
@@ -96,7 +97,7 @@ end_back : (end : ℕ) → end < tick_limit → end_in (end_text end) ≡ end
 unfolding end_in end_text ascii
 end_back end h = decimal-value end h
 
-pub end_line_lem : (end : ℕ) → end < tick_limit → line_of (end_text end) ≡ End end
+pub end_line_lem : (end : ℕ) → end < tick_limit → line_of (end_text end) ≡ Some (End end)
 end_line_lem end h =
     let l = end_text end in
     let reads = end_reads l end h refl in

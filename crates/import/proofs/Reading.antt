@@ -3,14 +3,13 @@
 use mathlib.Core.Path.{◌≡◌, sym, ap, ◌∙◌}
 use mathlib.Core.Bool.{Bool, true, false, ◌&&◌}
 use mathlib.Core.List.{List}
-use Prim.Native.Nat.{ℕ, ◌-◌, ◌^◌, ◌≤◌, ◌<◌, min}
-use native.Mathlib.Decide.{dec_lt}
+use Prim.Native.Nat.{ℕ, ◌-◌, ◌^◌, ◌≤◌, ◌<◌}
 use native.Mathlib.Omega.{arith}
 use mir.Syntax.{w16, w32}
 use mir.Val.{Fits}
-use borrow.Author.Tests.{lt-ltb, le-ltb, ltb-true}
+use borrow.Author.Tests.{lt-ltb, ltb-true}
 use lib.Dec.{ltb}
-use lib.ListN.{length, take, drop, length-append, length-drop, drop_of_length-le}
+use lib.ListN.{length, take, drop, length-append, length-drop}
 use lib.Seq.{length-take-le, take_all}
 use Rattle.words.proofs.Tests.{and_left, and_right}
 use Rattle.layout.specs.Numbers.{ascii, hex_of}
@@ -19,15 +18,12 @@ use Rattle.layout.proofs.Digits.{decimal-long}
 use Rattle.layout.proofs.Writing.{written-front, written-within, front-text}
 use Rattle.text.specs.Lines.{timed_text, end_text}
 use Rattle.import.specs.Line.{is_text, tick_limit, word_limit, value_from, tick_in, word_in, end_in, reads_timed, reads_end, line_of}
-use Rattle.import.specs.declared.line.Line.TheVariants.{Word, End, Other}
+use Rattle.import.specs.declared.line.Line.TheVariants.{Word, End}
+use Rattle.std.specs.Prelude.{Some, None}
 
 -- the digits of a line
 pub front_long : (l : List ℕ) (k : ℕ) {n : ℕ} → n ≡ length l - k → n ≡ length (take n l)
 front_long l k {n} e = sym (length-take-le n l (omega arith))
-
-pub tick-read : (l : List ℕ) {n r : ℕ} → n ≡ length l - 5 → r ≡ value_from 10 0 (take n l) → r ≡ tick_in l
-unfolding tick_in
-tick-read l e is = is ∙ rw e
 
 back-taken : (l : List ℕ) (n : ℕ) → take (length l - n) (drop n l) ≡ drop n l
 back-taken l n = take_all (length l - n) (drop n l) (omega (arith, length-drop n l))
@@ -35,14 +31,6 @@ back-taken l n = take_all (length l - n) (drop n l) (omega (arith, length-drop n
 pub word_read : (l : List ℕ) {n r : ℕ} → n ≡ length l - 4 → r ≡ value_from 16 0 (take (length l - n) (drop n l)) → r ≡ word_in l
 unfolding word_in
 word_read l {n} e is = is ∙ rw (back-taken l n, e)
-
-pub end_read : (l : List ℕ) {n r : ℕ} → n ≡ min 4 (length l) → r ≡ value_from 10 0 (take (length l - n) (drop n l)) → r ≡ end_in l
-unfolding end_in
-end_read l {n} {r} e is = go (dec_lt (length l) 4)
-  where
-    go : Dec (length l < 4) → r ≡ value_from 10 0 (drop 4 l)
-    go (yes h) = is ∙ ap (value_from 10 0) (back-taken l n ∙ drop_of_length-le l {i = n} (omega arith) ∙ sym (drop_of_length-le l {i = 4} (omega arith)))
-    go (no h) = let four : n ≡ 4 = omega arith in is ∙ rw (back-taken l n, four)
 
 -- what is printed for comparison
 pub printed-long : {old text : List ℕ} {n : ℕ} {new : List ℕ} → Written old 0 text n new → n ≡ length (take n new)
@@ -65,15 +53,7 @@ module _ (l : List ℕ) {old : List ℕ} (room : length old ≡ 32) (t : ℕ) (h
 
 -- a tick and a word
 module _ (l : List ℕ) (t w : ℕ) where
-  pub timed-late : tick_limit ≤ t → false ≡ reads_timed l t w
-  unfolding reads_timed
-  timed-late h = rw (le-ltb t tick_limit h)
-
   module _ (small : t < tick_limit) where
-    pub timed-wide : word_limit ≤ w → false ≡ reads_timed l t w
-    unfolding reads_timed
-    timed-wide h = rw (lt-ltb t tick_limit small, le-ltb w word_limit h)
-
     pub timed-reads : w < word_limit → {z : Bool} → z ≡ is_text l (timed_text t w) → z ≡ reads_timed l t w
     unfolding reads_timed
     timed-reads h e = e ∙ rw (lt-ltb t tick_limit small, lt-ltb w word_limit h)
@@ -93,10 +73,6 @@ module _ (l : List ℕ) (t w : ℕ) where
 
 -- the end
 module _ (l : List ℕ) (t : ℕ) where
-  pub end-late : tick_limit ≤ t → false ≡ reads_end l t
-  unfolding reads_end
-  end-late h = rw (le-ltb t tick_limit h)
-
   pub end_reads : t < tick_limit → {z : Bool} → z ≡ is_text l (end_text t) → z ≡ reads_end l t
   unfolding reads_end
   end_reads h e = e ∙ rw (lt-ltb t tick_limit h)
@@ -107,15 +83,15 @@ module _ (l : List ℕ) (t : ℕ) where
 
 -- the line
 module _ (l : List ℕ) {t w : ℕ} (tick : t ≡ tick_in l) (word : w ≡ word_in l) {z : Bool} (timed : z ≡ reads_timed l t w) where
-  pub line_word : z ≡ true → Word t w ≡ line_of l
+  pub line_word : z ≡ true → Some (Word t w) ≡ line_of l
   unfolding line_of
   line_word e = rw (← tick, ← word, ← timed, e)
 
   module _ (plain : z ≡ false) {end : ℕ} (ends : end ≡ end_in l) {y : Bool} (last : y ≡ reads_end l end) where
-    pub line-end : y ≡ true → End end ≡ line_of l
+    pub line-end : y ≡ true → Some (End end) ≡ line_of l
     unfolding line_of
     line-end e = rw (← tick, ← word, ← timed, plain, ← ends, ← last, e)
 
-    pub line_other : y ≡ false → Other ≡ line_of l
+    pub line_other : y ≡ false → None ≡ line_of l
     unfolding line_of
     line_other e = rw (← tick, ← word, ← timed, plain, ← ends, ← last, e)

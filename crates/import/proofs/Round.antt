@@ -25,11 +25,11 @@ use Rattle.import.specs.Line.{tick_limit, line_of}
 use Rattle.import.specs.Read.{most_bytes, lines, begin, next, with_word, with_end, judged, judged_all, read_of, answer_by, import_of, import_count, word_of, tick_of, word_lines_in, words_in, ticks_in}
 use Rattle.import.specs.declared.line.Line.{Line}
 use Rattle.import.specs.declared.progress.Progress.{Progress}
-use Rattle.import.specs.declared.read.Import.TheVariants.{Done}
 use Rattle.import.proofs.Judging.{word-taken, end-taken, judged-head, answer-done}
 use Rattle.import.proofs.PlanWords.{Sixteen, plan-words}
 use Rattle.import.proofs.Body.{Open, open-word, judged-open}
 use Rattle.import.proofs.Printed.{same_text, timed-line, end_line_lem, plain-head, plain-timed, plain_end, lines-line}
+use Rattle.std.specs.Prelude.{Option, Ok}
 
 -- the ticks from t on rise strictly, and the last is before the end
 abbrev pub RisingTo : ℕ → List ℕ → ℕ → Type 0
@@ -38,7 +38,7 @@ RisingTo t (u ∷ ts) end = (t ≤ u) × RisingTo (u + 1) ts end
 
 -- a text is read, with these words and ticks
 pub record ReadsAs (text ws ts : List ℕ) : Type 0 where
-  pub done : import_of text ≡ Done (length ws)
+  pub done : import_of text ≡ Ok (length ws)
   pub words : words_in text ≡ ws
   pub ticks : ticks_in text ≡ ts
 
@@ -75,12 +75,12 @@ rising-ends t (u ∷ ts) end r = omega (arith, r.0, rising-ends (u + 1) ts end r
 
 -- the lines after the first, judged
 all-judged : (p : Progress) (ts ws : List ℕ) (end : ℕ) → Open p → length ts ≡ length ws → p.count + length ws ≤ most_words → Sixteen ws
-    → RisingTo p.least ts end → end < tick_limit → answer_by (judged_all p (texts ts ws ++ (end_text end ∷ []))) ≡ Done (p.count + length ws)
+    → RisingTo p.least ts end → end < tick_limit → answer_by (judged_all p (texts ts ws ++ (end_text end ∷ []))) ≡ Ok (p.count + length ws)
 unfolding judged_all
 all-judged p [] [] end o same few small rises h =
     let taken : with_end (next p) ≡ judged p (end_text end) = end-taken (next p) refl rises ∙ judged-open p (end_text end) o (end_line_lem end h) in
     let n : p.count ≡ p.count + 0 = omega arith in
-    ap answer_by (sym taken) ∙ sym (answer-done (with_end (next p)) o.sound (λ (e : _). omega arith)) ∙ ap Done n
+    ap answer_by (sym taken) ∙ sym (answer-done (with_end (next p)) o.sound (λ (e : _). omega arith)) ∙ ap Ok n
 all-judged p [] (w ∷ ws) end o same few small rises h = absurd (omega arith)
 all-judged p (t ∷ ts) [] end o same few small rises h = absurd (omega arith)
 all-judged p (t ∷ ts) (w ∷ ws) end o same few small rises h =
@@ -91,7 +91,7 @@ all-judged p (t ∷ ts) (w ∷ ws) end o same few small rises h =
     let n : p.count + 1 + length ws ≡ p.count + suc (length ws) = omega arith in
     ap (λ (q : Progress). answer_by (judged_all q (texts ts ws ++ (end_text end ∷ [])))) (sym taken)
     ∙ all-judged (with_word (next p) t) ts ws end (open-word t o) (omega arith) (omega arith) small.1 rises.1 h
-    ∙ ap Done n
+    ∙ ap Ok n
 
 -- the numbers of the lines
 words_back : (ts ws : List ℕ) (rest : List (List ℕ)) (t end : ℕ) → length ts ≡ length ws → Sixteen ws → RisingTo t ts end → end < tick_limit
@@ -114,18 +114,18 @@ ticks-back (u ∷ ts) (w ∷ ws) rest t end same small rises h =
 
 module _ (ts ws : List ℕ) (end : ℕ) (same : length ts ≡ length ws) (few : length ws ≤ most_words) (small : Sixteen ws) (rises : RisingTo 0 ts end)
     (h : end < tick_limit) (fits : length (listing_of ts ws end) ≤ most_bytes) where
-  listing-done : import_of (listing_of ts ws end) ≡ Done (length ws)
+  listing-done : import_of (listing_of ts ws end) ≡ Ok (length ws)
   unfolding import_of read_of judged_all
   listing-done =
       let start : Open (next begin) = record { sound = refl; later = λ (e : _). omega arith; unended = refl } in
-      let head : next begin ≡ judged begin head_text = judged-head begin head_text refl refl refl refl (same_text head_text) in
+      let head : next begin ≡ judged begin head_text = judged-head begin head_text refl refl refl (same_text head_text) in
       let n : 0 + length ws ≡ length ws = omega arith in
       rw (le-ltb most_bytes (length (listing_of ts ws end)) fits, lines-listing ts ws end)
       (ap (λ (q : Progress). answer_by (judged_all q (texts ts ws ++ (end_text end ∷ [])))) (sym head)
       ∙ all-judged (next begin) ts ws end start same (omega arith) small rises h
-      ∙ ap Done n)
+      ∙ ap Ok n)
 
-  listing-numbers : (f : Line → ℕ) → map f (word_lines_in (import_count (import_of (listing_of ts ws end))) (listing_of ts ws end))
+  listing-numbers : (f : Option Line → ℕ) → map f (word_lines_in (import_count (import_of (listing_of ts ws end))) (listing_of ts ws end))
       ≡ map f (map line_of (take (length ws) (texts ts ws ++ (end_text end ∷ []))))
   unfolding word_lines_in
   listing-numbers f = rw (listing-done, lines-listing ts ws end)

@@ -1,11 +1,11 @@
 -- A line of a list, without its newline: a tick and a word, or the end. It is one where it reads as the listing prints them, and in no
 -- other form.
 -- Assumes nothing.
-use Rattle.std.specs.Prelude.{ℕ, ◌+◌, ◌-◌, ◌*◌, ◌^◌, min, Bool, true, false, cond, ◌&&◌, ◌||◌, List, [], ◌∷◌, eqb, leb, ltb, length, take, drop}
+use Rattle.std.specs.Prelude.{ℕ, ◌+◌, ◌-◌, ◌*◌, ◌^◌, min, Bool, true, false, cond, ◌&&◌, ◌||◌, List, [], ◌∷◌, eqb, leb, ltb, length, take, drop, Option, Some, None}
 use Prim.Native.Char.{code}
 use Rattle.text.specs.Lines.{timed_text, end_text}
 use Rattle.import.specs.declared.line.Line.{Line}
-use Rattle.import.specs.declared.line.Line.TheVariants.{Word, End, Other}
+use Rattle.import.specs.declared.line.Line.TheVariants.{Word, End}
 
 -- A hexadecimal letter in upper case; any other byte as it is.
 unfoldable pub upper : ℕ → ℕ
@@ -55,7 +55,8 @@ reads_timed l tick word = ltb tick tick_limit && ltb word word_limit && is_text 
 unfoldable pub reads_end : List ℕ → ℕ → Bool
 reads_end l tick = ltb tick tick_limit && is_text l (end_text tick)
 
-unfoldable pub line_of : List ℕ → Line
+-- None for a line of any other form.
+unfoldable pub line_of : List ℕ → Option Line
 line_of l =
-    cond (reads_timed l (tick_in l) (word_in l)) (Word (tick_in l) (word_in l))
-    (cond (reads_end l (end_in l)) (End (end_in l)) Other)
+    cond (reads_timed l (tick_in l) (word_in l)) (Some (Word (tick_in l) (word_in l)))
+    (cond (reads_end l (end_in l)) (Some (End (end_in l))) None)

@@ -3,14 +3,13 @@ ghost use Rattle.std.specs.Prelude.{◌≡◌, ◌<◌};
 ghost use Rattle.import.specs.Read.{most_bytes, begin, next, fault, by_line, judged, answer_by};
 
 use crate::line::{Line, is_text, line_of};
-use crate::read::Import;
-use crate::reasons::{AFTER_END, NO_HEAD_LINE, NO_WORD_LINE, NOT_RISING, TOO_MANY_WORDS};
+use crate::reasons::{ImportError, Reason};
 use timed::MOST_WORDS;
 
-// The number of a refusal, 0 for none, the lines and words so far, the least tick that may come, and whether the end came.
+// Why the text is refused, if it is, the lines and words so far, the least tick that may come, and whether the end came.
 #[derive(Clone, Copy)]
 pub(crate) struct Progress {
-    pub(crate) number: u8,
+    pub(crate) refused: Option<Reason>,
     pub(crate) line: usize,
     pub(crate) count: usize,
     pub(crate) least: u64,
@@ -22,7 +21,7 @@ impl Progress {
         ensures { result ≡ begin }
     {
         Progress {
-            number: 0,
+            refused: None,
             line: 0,
             count: 0,
             least: 0,
@@ -40,45 +39,47 @@ impl Progress {
     }
 
     // Refused at the line that was read last.
-    fn fault(mut self, number: u8) -> Progress
-        ensures { result ≡ fault self number }
+    fn fault(mut self, reason: Reason) -> Progress
+        ensures { result ≡ fault self reason }
     {
-        self.number = number;
+        self.refused = Some(reason);
         self
     }
 
     // A line after the first.
-    fn by_line(mut self, line: Line) -> Progress
+    #[tactic(auto, unfolding(crate::specs::Read::by_line))]
+    fn by_line(mut self, line: Option<Line>) -> Progress
         ensures { result ≡ by_line self line }
     {
         match line {
-            Line::Word { tick, word: _ } => {
+            Some(Line::Word { tick, word: _ }) => {
                 if (tick as u64) < self.least {
-                    return self.fault(NOT_RISING);
+                    return self.fault(Reason::NotRising);
                 }
                 if MOST_WORDS <= self.count {
-                    return self.fault(TOO_MANY_WORDS);
+                    return self.fault(Reason::TooManyWords);
                 }
                 self.count = self.count + 1;
                 self.least = tick as u64 + 1;
                 self
             }
-            Line::End { tick } => {
+            Some(Line::End { tick }) => {
                 if (tick as u64) < self.least {
-                    return self.fault(NOT_RISING);
+                    return self.fault(Reason::NotRising);
                 }
                 self.ended = true;
                 self
             }
-            Line::Other => self.fault(NO_WORD_LINE),
+            None => self.fault(Reason::NoWordLine),
         }
     }
 
+    #[tactic(auto, unfolding(crate::specs::Read::judged, text::specs::Lines::head_text, layout::specs::Numbers::ascii))]
     pub(crate) fn judged(self, line: &[u8]) -> Progress
         requires { self.line < most_bytes }
         ensures { result ≡ judged self line.now }
     {
-        if self.number != 0 {
+        if self.refused.is_some() {
             return self;
         }
         let next = self.next();
@@ -86,29 +87,31 @@ impl Progress {
             if is_text(line, b"tick word") {
                 return next;
             }
-            return next.fault(NO_HEAD_LINE);
+            return next.fault(Reason::NoHeadLine);
         }
         if self.ended {
-            return next.fault(AFTER_END);
+            return next.fault(Reason::AfterEnd);
         }
         next.by_line(line_of(line))
     }
 
-    pub(crate) fn answer(self) -> Import
+    // A text with no line lacks the first.
+    #[tactic(auto, unfolding(crate::specs::Read::answer_by))]
+    pub(crate) fn answer(self) -> Result<usize, ImportError>
         ensures { result ≡ answer_by self }
     {
-        if self.number != 0 {
-            return Import::Refused {
-                number: self.number,
+        if let Some(reason) = self.refused {
+            return Err(ImportError::Refused {
+                reason,
                 line: self.line,
-            };
+            });
         }
         if self.line == 0 {
-            return Import::Refused {
-                number: NO_HEAD_LINE,
+            return Err(ImportError::Refused {
+                reason: Reason::NoHeadLine,
                 line: 1,
-            };
+            });
         }
-        Import::Done { count: self.count }
+        Ok(self.count)
     }
 }

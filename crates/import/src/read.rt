@@ -1,49 +1,15 @@
 // A list read from text: the line that names the columns, a line for each word, and the end, which may be missing.
 ghost use Rattle.std.specs.Prelude.{◌≡◌, map, ◌≤◌, ◌<◌, length, set};
 ghost use Rattle.std.proofs.lemmas.List.Edits.{sets};
-ghost use Rattle.import.specs.Read.{most_bytes, read_of, import_of, import_into, import_number, import_line, word_of, tick_of, word_lines_in, words_in, ticks_in, import_after};
+ghost use Rattle.import.specs.Read.{most_bytes, read_of, import_of, import_into, word_of, tick_of, word_lines_in, words_in, ticks_in, import_after};
 
 use crate::line::{Line, line_of};
 use crate::progress::Progress;
-use crate::reasons::{SHORT, TOO_LONG};
-use crate::split::{line_count, line_end};
+use crate::reasons::{ImportError, Reason};
+use crate::split::{Lines, line_count};
 
 // The most bytes of a text.
 pub const MOST_BYTES: usize = 8192;
-
-#[derive(Clone, Copy)]
-pub enum Import {
-    // The number of words.
-    Done { count: usize },
-    // The number of the reason, and the line, counted from 1.
-    Refused { number: u8, line: usize },
-    // A buffer has fewer places than there are words.
-    Short { count: usize },
-}
-
-impl Import {
-    // The reason's number, 0 for none.
-    pub fn number(self) -> u8
-        ensures { result ≡ import_number self }
-    {
-        match self {
-            Import::Done { count: _ } => 0,
-            Import::Refused { number, line: _ } => number,
-            Import::Short { count: _ } => SHORT,
-        }
-    }
-
-    // The line of a refusal, 0 for none.
-    pub fn line(self) -> usize
-        ensures { result ≡ import_line self }
-    {
-        match self {
-            Import::Done { count: _ } => 0,
-            Import::Refused { number: _, line } => line,
-            Import::Short { count: _ } => 0,
-        }
-    }
-}
 
 // Reads every line.
 fn judge(text: &[u8]) -> Progress
@@ -51,50 +17,46 @@ fn judge(text: &[u8]) -> Progress
     ensures { result ≡ read_of text.now }
 {
     let mut progress = Progress::begin();
-    let mut at: usize = 0;
-    while at < text.len() {
-        let end = line_end(text, at);
-        progress = progress.judged(&text[at..end]);
-        at = end + 1;
+    for line in (Lines { rest: text }) {
+        progress = progress.judged(line);
     }
     progress
 }
 
 // The answer alone.
-fn checked(text: &[u8]) -> Import
+#[tactic(auto, unfolding(crate::specs::Read::import_of))]
+fn checked(text: &[u8]) -> Result<usize, ImportError>
     ensures { result ≡ import_of text.now }
 {
     if MOST_BYTES < text.len() {
-        return Import::Refused {
-            number: TOO_LONG,
+        return Err(ImportError::Refused {
+            reason: Reason::TooLong,
             line: line_count(&text[..MOST_BYTES + 1]),
-        };
+        });
     }
     judge(text).answer()
 }
 
-fn word_of(line: Line) -> u16
+fn word_of(line: Option<Line>) -> u16
     ensures { result ≡ word_of line }
 {
     match line {
-        Line::Word { tick: _, word } => word,
-        Line::End { tick: _ } => 0,
-        Line::Other => 0,
+        Some(Line::Word { tick: _, word }) => word,
+        _ => 0,
     }
 }
 
-fn tick_of(line: Line) -> u32
+fn tick_of(line: Option<Line>) -> u32
     ensures { result ≡ tick_of line }
 {
     match line {
-        Line::Word { tick, word: _ } => tick,
-        Line::End { tick: _ } => 0,
-        Line::Other => 0,
+        Some(Line::Word { tick, word: _ }) => tick,
+        _ => 0,
     }
 }
 
 // The word and tick of a line at a place.
-fn put_line(words: &mut [u16], ticks: &mut [u32], i: usize, line: Line)
+fn put_line(words: &mut [u16], ticks: &mut [u32], i: usize, line: Option<Line>)
     requires fact_1 { i < length words.old }
     requires fact_2 { i < length ticks.old }
     ensures words_after { words.new ≡ set words.old i (word_of line) }
@@ -111,33 +73,28 @@ fn fill(text: &[u8], count: usize, words: &mut [u16], ticks: &mut [u32])
     ensures words_after { words.new ≡ sets words.old 0 (map word_of (word_lines_in count text.now)) }
     ensures ticks_after { ticks.new ≡ sets ticks.old 0 (map tick_of (word_lines_in count text.now)) }
 {
-    let mut at = line_end(text, 0) + 1;
-    let mut i: usize = 0;
-    while (i < count) & (at < text.len()) {
-        let end = line_end(text, at);
-        put_line(words, ticks, i, line_of(&text[at..end]));
-        at = end + 1;
-        i = i + 1;
+    let mut lines = Lines { rest: text };
+    let _head = lines.next();
+    for i in 0..count {
+        let Some(line) = lines.next() else {
+            return;
+        };
+        put_line(words, ticks, i, line_of(line));
     }
 }
 
 // Reads a list from text into two lent buffers. A refusal writes nothing, and success fills the first places only.
-pub fn read_list(text: &[u8], words: &mut [u16], ticks: &mut [u32]) -> Import
+#[tactic(auto, unfolding(crate::specs::Read::import_into, crate::specs::Read::with_room, crate::specs::Read::import_after, crate::specs::Read::words_in, crate::specs::Read::ticks_in))]
+pub fn read_list(text: &[u8], words: &mut [u16], ticks: &mut [u32]) -> Result<usize, ImportError>
     ensures value { result ≡ import_into text.now (length words.old) (length ticks.old) }
     ensures words_after { words.new ≡ import_after result (words_in text.now) words.old }
     ensures ticks_after { ticks.new ≡ import_after result (ticks_in text.now) ticks.old }
 {
-    let answer = checked(text);
-    match answer {
-        Import::Done { count } => {
-            let fits = (count <= words.len()) & (count <= ticks.len());
-            if !fits {
-                return Import::Short { count };
-            }
-            fill(text, count, words, ticks);
-            Import::Done { count }
-        }
-        Import::Refused { number, line } => Import::Refused { number, line },
-        Import::Short { count } => Import::Short { count },
+    let count = checked(text)?;
+    let fits = (count <= words.len()) & (count <= ticks.len());
+    if !fits {
+        return Err(ImportError::Short { count });
     }
+    fill(text, count, words, ticks);
+    Ok(count)
 }

@@ -1,32 +1,46 @@
 // A text cut into lines.
-ghost use Rattle.std.specs.Prelude.{◌≡◌, ◌+◌, length, drop};
-ghost use Rattle.import.specs.FirstLine.{first_line};
+ghost use Rattle.std.specs.Prelude.{◌≡◌, ◌==◌, length, position};
+ghost use Rattle.std.specs.Iterator.{YieldsFirstRef, item_count};
 ghost use Rattle.import.specs.Read.{lines};
 
 const NEWLINE: u8 = b'\n';
 
-// The place of the newline of a line that begins at a place, or the text's end.
-pub(crate) fn line_end(text: &[u8], at: usize) -> usize
-    ensures { result ≡ at + length (first_line (drop at text.now)) }
+// The place of the first newline.
+fn newline_in(text: &[u8]) -> Option<usize>
+    ensures { result ≡ position (λ c. c == 10) text.now }
 {
-    let mut end = at;
-    while end < text.len() {
-        if text[end] == NEWLINE {
-            return end;
+    text.iter().position(|byte| *byte == NEWLINE)
+}
+
+// The lines of a text, without their newlines.
+#[derive(Drop)]
+pub(crate) struct Lines<'a> {
+    pub(crate) rest: &'a [u8],
+}
+
+impl<'a> Iterator for Lines<'a> {
+    type Item = &'a [u8];
+
+    ghost next_gives = { YieldsFirstRef (λ s. lines s.rest.now) };
+
+    ghost remaining = { item_count (λ s. lines s.rest.now) };
+
+    fn next(&mut self) -> Option<&'a [u8]> {
+        let text = self.rest;
+        if text.is_empty() {
+            return None;
         }
-        end = end + 1;
+        let Some(end) = newline_in(text) else {
+            self.rest = &[];
+            return Some(text);
+        };
+        self.rest = &text[end + 1..];
+        Some(&text[..end])
     }
-    end
 }
 
 pub(crate) fn line_count(text: &[u8]) -> usize
     ensures { result ≡ length (lines text.now) }
 {
-    let mut count: usize = 0;
-    let mut at: usize = 0;
-    while at < text.len() {
-        at = line_end(text, at) + 1;
-        count = count + 1;
-    }
-    count
+    (Lines { rest: text }).count()
 }

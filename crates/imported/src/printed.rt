@@ -7,8 +7,10 @@ ghost use Rattle.inspection.specs.Inspection.{inspection_text};
 ghost use Rattle.imported.specs.Printed.{printed_for};
 
 use crate::refusal::put_refusal;
-use import::read::{Import, read_list};
-use inspection::inspection::{Inspected, LONGEST, inspect};
+use import::read::read_list;
+use import::reasons::ImportError;
+use inspection::inspection::{LONGEST, inspect};
+use layout::writer::Writer;
 use timed::MOST_WORDS;
 
 // The text of the inspection of a list; the answer is its length.
@@ -16,10 +18,9 @@ fn inspected(words: &[u16], ticks: &[u32], out: &mut [u8; LONGEST]) -> usize
     requires { is_list words.now ticks.now ≡ true }
     ensures { Front out.old (inspection_text words.now ticks.now) result out.new }
 {
-    let answer = inspect(words, ticks, out);
-    match answer {
-        Inspected::Done { length, counts: _ } => length,
-        Inspected::Refused => 0,
+    match inspect(words, ticks, out) {
+        Ok(inspection) => inspection.length,
+        Err(_) => 0,
     }
 }
 
@@ -34,7 +35,11 @@ fn inspected_first(words: &[u16], ticks: &[u32], count: usize, out: &mut [u8; LO
 }
 
 // Reads a list into two buffers with room for every list.
-fn read_whole(text: &[u8], words: &mut [u16; MOST_WORDS], ticks: &mut [u32; MOST_WORDS]) -> Import
+fn read_whole(
+    text: &[u8],
+    words: &mut [u16; MOST_WORDS],
+    ticks: &mut [u32; MOST_WORDS],
+) -> Result<usize, ImportError>
     ensures value { result ≡ import_of text.now }
     ensures words_after { take (import_count result) words.new ≡ words_in text.now }
     ensures ticks_after { take (import_count result) ticks.new ≡ ticks_in text.now }
@@ -51,11 +56,14 @@ fn printed_over(
 ) -> usize
     ensures { Front out.old (printed_for text.now) result out.new }
 {
-    let read = read_whole(text, words, ticks);
-    match read {
-        Import::Done { count } => inspected_first(words, ticks, count, out),
-        Import::Refused { number, line } => put_refusal(out, 0, number, line),
-        Import::Short { count: _ } => 0,
+    match read_whole(text, words, ticks) {
+        Ok(count) => inspected_first(words, ticks, count, out),
+        Err(ImportError::Refused { reason, line }) => {
+            let mut writer = Writer::new(out);
+            put_refusal(&mut writer, reason.number(), line);
+            writer.len()
+        }
+        Err(ImportError::Short { count: _ }) => 0,
     }
 }
 

@@ -16,7 +16,6 @@ use Rattle.head.specs.Busy.{at_rest}
 use Rattle.head.specs.Numbers.{is_cause}
 use Rattle.head.specs.List.{stepped}
 use Rattle.head.specs.declared.state.Head.{Head}
-use Rattle.layout.specs.Numbers.{bit}
 use Rattle.layout.proofs.Bits.{bit-few}
 use Rattle.inspection.specs.Notes.{is_exposure}
 use Rattle.inspection.specs.Rows.{number_of}
@@ -40,19 +39,10 @@ few-counted c i n begun rest h =
       moving = omega (arith, h.moving, bit-few (is_exposure n && not rest));
     }
 
--- one word more, by what the code asks of it
-module _ (c : Counts) (n begun : ℕ) (rest : Bool) where
-  pub counted_is : {x : Bool} → x ≡ is_exposure n → {y : Bool} → y ≡ is_cause n
-      → {a : ℕ} → a ≡ bit y → {b : ℕ} → b ≡ bit x → {d : ℕ} → d ≡ bit (x && ltb 0 begun) → {e : ℕ} → e ≡ bit (x && not rest)
-      → record { ignored = c.ignored + a; exposures = c.exposures + b; incomplete = c.incomplete + d; moving = c.moving + e }
-      ≡ counted c n begun rest
-  unfolding counted
-  counted_is exposes cause a b d e = rw (a, b, d, e, exposes, cause)
-
-pub count_word : (c : Counts) (s : Head) (w : ℕ) {n : ℕ} → n ≡ number_of s w → {rest : Bool} → rest ≡ at_rest s
-    → {d : Counts} → d ≡ counted c n s.begun.count rest
-    → d ≡ counted c (number_of s w) s.begun.count (at_rest s)
-count_word c s w number rest is = rw (← number, ← rest) is
+-- what counts nothing
+pub none-is : {c : Counts} → c.ignored ≡ 0 → c.exposures ≡ 0 → c.incomplete ≡ 0 → c.moving ≡ 0 → c ≡ none
+none-is {c} a b d e =
+    let r : record { ignored = c.ignored; exposures = c.exposures; incomplete = c.incomplete; moving = c.moving } ≡ none = rw (a, b, d, e) in r
 
 -- the words from the ith on are left, which the head gets next
 pub record Counting (ws ts : List ℕ) (c : Counts) (s : Head) (i : ℕ) : Type 0 where
@@ -63,9 +53,9 @@ pub record Counting (ws ts : List ℕ) (c : Counts) (s : Head) (i : ℕ) : Type 
   pub left : counts_from none ws ts power_on ≡ counts_from c (drop i ws) (drop i ts) s
 
 module _ {ws ts : List ℕ} where
-  pub counting-first : is_list ws ts ≡ true → {s : Head} → s ≡ power_on → Counting ws ts none s 0
-  counting-first fits is =
-      rw is
+  pub counting-first : is_list ws ts ≡ true → {c : Counts} → c ≡ none → {s : Head} → s ≡ power_on → Counting ws ts c s 0
+  counting-first fits zeros is =
+      rw (zeros, is)
       (record {
         even = list-even ws ts fits;
         long = list-few ws ts fits;

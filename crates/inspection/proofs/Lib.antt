@@ -1,3 +1,4 @@
+pub mod Outcomes
 pub mod Meanings
 pub mod Noting
 pub mod Wording

@@ -1,12 +1,13 @@
 // The kind of a word, and what its data mean.
 ghost use Rattle.std.specs.Prelude.{◌≡◌};
-ghost use Rattle.layout.specs.Written.{Written};
+ghost use Rattle.layout.specs.Adds.{Adds};
 ghost use Rattle.inspection.specs.Meaning.{is_time, is_lamp, is_mode, choice_of, value_of, cover_text, value_text, data_text, unknown_text, range_text, meaning_text, kind_text};
 
 use head::state::Head;
-use layout::template::put_template;
-use words::{decode, kind_of, kinds};
+use layout::writer::Writer;
+use words::{DecodeError, Word, decode, kind_of, kinds};
 
+#[tactic(auto, unfolding(crate::specs::Meaning::is_time))]
 fn is_time(kind: u8) -> bool
     ensures { result ≡ is_time kind }
 {
@@ -14,6 +15,7 @@ fn is_time(kind: u8) -> bool
     ir | (kind == kinds::CCD_DELAY) | (kind == kinds::CCD_EXPO)
 }
 
+#[tactic(auto, unfolding(crate::specs::Meaning::is_lamp))]
 fn is_lamp(kind: u8) -> bool
     ensures { result ≡ is_lamp kind }
 {
@@ -21,6 +23,7 @@ fn is_lamp(kind: u8) -> bool
     lamps | (kind == kinds::SHUTTER) | (kind == kinds::ANNEALING)
 }
 
+#[tactic(auto, unfolding(crate::specs::Meaning::is_mode))]
 fn is_mode(kind: u8) -> bool
     ensures { result ≡ is_mode kind }
 {
@@ -28,6 +31,7 @@ fn is_mode(kind: u8) -> bool
 }
 
 // Which of a kind's two texts is meant.
+#[tactic(auto, unfolding(crate::specs::Meaning::choice_of))]
 fn choice_of(kind: u8, bits: u16) -> u16
     ensures { result ≡ choice_of kind bits }
 {
@@ -44,6 +48,7 @@ fn choice_of(kind: u8, bits: u16) -> u16
 }
 
 // The number that the text shows.
+#[tactic(auto, unfolding(crate::specs::Meaning::value_of))]
 fn value_of(kind: u8, bits: u16) -> u64
     ensures { result ≡ value_of kind bits }
 {
@@ -59,31 +64,28 @@ fn value_of(kind: u8, bits: u16) -> u64
     bits as u64
 }
 
-fn put_cover(out: &mut [u8], at: usize, bits: u16) -> usize
-    ensures { Written out.old at (cover_text bits) result out.new }
+#[tactic(auto, unfolding(crate::specs::Meaning::cover_text, crate::specs::Meaning::cover_template, layout::specs::Numbers::ascii))]
+fn put_cover(writer: &mut Writer<'_>, bits: u16)
+    ensures { Adds writer.old writer.new (cover_text bits) }
 {
     let b = bits as u64;
     let values = [b / 512, b / 256 % 2, b / 128 % 2, b % 128];
-    put_template(
-        out,
-        at,
+    writer.put_template(
         b"{close|open}, {half|one} wave, sensors {disabled|enabled}, @@ steps\n",
         &values,
         &[],
-    )
+    );
 }
 
 // The data of a word of any kind but COVER.
-fn put_value(out: &mut [u8], at: usize, kind: u8, bits: u16) -> usize
-    ensures { Written out.old at (value_text kind bits) result out.new }
+fn put_value(writer: &mut Writer<'_>, kind: u8, bits: u16)
+    ensures { Adds writer.old writer.new (value_text kind bits) }
 {
     let values = [
         2 * kind as u64 + choice_of(kind, bits) as u64,
         value_of(kind, bits),
     ];
-    put_template(
-        out,
-        at,
+    writer.put_template(
         b"{no operation||start of an acquisition||housekeeping||stop||\
         detector off|detector on|IR window mode full|IR window mode reduced|\
         VDETCOM, upper 4 bits: @@||VDETCOM, lower 8 bits: @@@||\
@@ -100,49 +102,50 @@ fn put_value(out: &mut [u8], at: usize, kind: u8, bits: u16) -> usize
         motor on|motor off}\n",
         &values,
         &[],
-    )
+    );
 }
 
-fn put_data(out: &mut [u8], at: usize, kind: u8, bits: u16) -> usize
-    ensures { Written out.old at (data_text kind bits) result out.new }
+#[tactic(auto, unfolding(crate::specs::Meaning::data_text))]
+fn put_data(writer: &mut Writer<'_>, kind: u8, bits: u16)
+    ensures { Adds writer.old writer.new (data_text kind bits) }
 {
     if kind == kinds::COVER {
-        return put_cover(out, at, bits);
+        put_cover(writer, bits);
+        return;
     }
-    put_value(out, at, kind, bits)
+    put_value(writer, kind, bits);
 }
 
-fn put_unknown(out: &mut [u8], at: usize, word: u16) -> usize
-    ensures { Written out.old at (unknown_text word) result out.new }
+#[tactic(auto, unfolding(crate::specs::Meaning::unknown_text, crate::specs::Meaning::unknown_template, layout::specs::Numbers::ascii))]
+fn put_unknown(writer: &mut Writer<'_>, word: u16)
+    ensures { Adds writer.old writer.new (unknown_text word) }
 {
     let values = [(word / 1024) as u64, (word % 1024) as u64];
-    put_template(out, at, b"identifier @@, data @@@@\n", &values, &[])
+    writer.put_template(b"identifier @@, data @@@@\n", &values, &[]);
 }
 
-fn put_out_of_range(out: &mut [u8], at: usize, word: u16) -> usize
-    ensures { Written out.old at (range_text word) result out.new }
+#[tactic(auto, unfolding(crate::specs::Meaning::range_text, crate::specs::Meaning::range_template, layout::specs::Numbers::ascii))]
+fn put_out_of_range(writer: &mut Writer<'_>, word: u16)
+    ensures { Adds writer.old writer.new (range_text word) }
 {
     let values = [(word % 1024) as u64];
-    put_template(out, at, b"data @@@@\n", &values, &[])
+    writer.put_template(b"data @@@@\n", &values, &[]);
 }
 
 // What a word's data mean; of a word that is unknown or out of range, its numbers.
-pub(crate) fn put_meaning(out: &mut [u8], at: usize, word: u16) -> usize
-    ensures { Written out.old at (meaning_text word) result out.new }
+pub(crate) fn put_meaning(writer: &mut Writer<'_>, word: u16)
+    ensures { Adds writer.old writer.new (meaning_text word) }
 {
-    let found = decode(word);
-    let finding = found.number();
-    if finding == 23 {
-        return put_unknown(out, at, word);
+    match decode(word) {
+        Ok(Word { kind, bits }) => put_data(writer, kind, bits),
+        Err(DecodeError::Unknown) => put_unknown(writer, word),
+        Err(DecodeError::OutOfRange { kind: _ }) => put_out_of_range(writer, word),
     }
-    if finding == 24 {
-        return put_out_of_range(out, at, word);
-    }
-    put_data(out, at, kind_of(word), word % 1024)
 }
 
-pub(crate) fn put_kind(out: &mut [u8], at: usize, word: u16) -> usize
-    ensures { Written out.old at (kind_text word) result out.new }
+#[tactic(auto, unfolding(crate::specs::Meaning::kind_text))]
+pub(crate) fn put_kind(writer: &mut Writer<'_>, word: u16)
+    ensures { Adds writer.old writer.new (kind_text word) }
 {
-    names::kind::put_kind(out, at, kind_of(word))
+    names::kind::put_kind(writer, kind_of(word));
 }

@@ -1,13 +1,19 @@
 // What merging answers (document 02, request P6).
 ghost use Rattle.std.specs.Prelude.{◌≡◌, ◌≤◌};
-ghost use Rattle.merge.specs.Answer.{merging_number, merged_count, merged_of};
+ghost use Rattle.merge.specs.Answer.{merge_error_number, merged_count, merged_of};
 
 use words::groups::{CCD, INFRARED};
 
-#[derive(Clone, Copy)]
-pub enum Merging {
-    // How many entries of each list the merged part has.
-    Done { ccd: usize, infrared: usize },
+// How many entries of each list the merged part has.
+#[derive(Clone, Copy, Debug, PartialEq, Eq)]
+pub struct Parts {
+    pub ccd: usize,
+    pub infrared: usize,
+}
+
+// Why two lists are not merged.
+#[derive(Clone, Copy, Debug, PartialEq, Eq)]
+pub enum MergeError {
     // The ticks of a list do not strictly rise.
     NotRising,
     // The same tick stands in both lists.
@@ -16,7 +22,7 @@ pub enum Merging {
     TooShort,
 }
 
-// The answer in numbers: request P6's number, 0 for none; whose list the rest is of; how many entries are merged; where the rest starts.
+// The answer in numbers, as C is told it: request P6's number, 0 for none; whose list the rest is of; how many entries are merged; where the rest starts.
 #[derive(Clone, Copy)]
 pub struct Merged {
     pub number: u8,
@@ -25,51 +31,51 @@ pub struct Merged {
     pub start: usize,
 }
 
-impl Merging {
-    // Request P6's number; 0 where there is nothing to refuse.
+impl MergeError {
+    // Request P6's number.
     pub fn number(self) -> u8
-        ensures { result ≡ merging_number self }
+        ensures { result ≡ merge_error_number self }
     {
         match self {
-            Merging::Done {
-                ccd: _,
-                infrared: _,
-            } => 0,
-            Merging::NotRising => 52,
-            Merging::SameTick => 53,
-            Merging::TooShort => 54,
+            MergeError::NotRising => 52,
+            MergeError::SameTick => 53,
+            MergeError::TooShort => 54,
         }
     }
+}
 
-    // The answer in numbers. The count is at most the room of the output.
-    pub(crate) fn told(self, ccd: &[u64], infrared: &[u64], room: usize) -> Merged
-        requires { merged_count self ≤ room }
-        ensures { result ≡ merged_of self ccd.now infrared.now }
+impl Merged {
+    // The answer in numbers, 0 where there is nothing to refuse. The count is at most the room of the output.
+    #[tactic(auto, unfolding(crate::specs::Answer::merged_of, crate::specs::Answer::merged_count, crate::specs::Answer::rest_list, crate::specs::Answer::rest_start))]
+    pub(crate) fn told(
+        merging: Result<Parts, MergeError>,
+        ccd: &[u64],
+        infrared: &[u64],
+        room: usize,
+    ) -> Merged
+        requires { merged_count merging ≤ room }
+        ensures { result ≡ merged_of merging ccd.now infrared.now }
     {
-        let number = self.number();
-        match self {
-            Merging::Done {
-                ccd: n,
-                infrared: m,
-            } => {
-                let count = n + m;
-                if n < ccd.len() {
+        match merging {
+            Ok(parts) => {
+                let count = parts.ccd + parts.infrared;
+                if parts.ccd < ccd.len() {
                     return Merged {
-                        number,
+                        number: 0,
                         list: CCD,
                         count,
-                        start: n,
+                        start: parts.ccd,
                     };
                 }
                 Merged {
-                    number,
+                    number: 0,
                     list: INFRARED,
                     count,
-                    start: m,
+                    start: parts.infrared,
                 }
             }
-            _ => Merged {
-                number,
+            Err(error) => Merged {
+                number: error.number(),
                 list: INFRARED,
                 count: 0,
                 start: infrared.len(),

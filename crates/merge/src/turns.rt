@@ -4,59 +4,55 @@ ghost use Rattle.timed.specs.List.{rising};
 ghost use Rattle.merge.specs.Merge.{ticks_in, merged_part};
 ghost use Rattle.merge.specs.ByPlaces.{Turned, walk_of};
 
+use crate::answer::Parts;
 use crate::tick_in;
 
+// The next entry, how much of the two lists is merged after it, and whether both have its tick.
 #[derive(Clone, Copy)]
-pub(crate) enum Turn {
-    // The next entry, the places after it in the two lists, and whether both have its tick.
-    Given {
-        entry: u64,
-        ccd: usize,
-        infrared: usize,
-        same: bool,
-    },
-    // A list has run out.
-    Over,
+pub(crate) struct Given {
+    pub entry: u64,
+    pub after: Parts,
+    pub same: bool,
 }
 
 // How many entries of each list the merged part has, and whether a tick stood in both.
 #[derive(Clone, Copy)]
 pub(crate) struct Walked {
-    pub ccd: usize,
-    pub infrared: usize,
+    pub parts: Parts,
     pub same: bool,
 }
 
-// The turn at place i of the CCD list and place j of the infrared list.
-fn turn_at(ccd: &[u64], infrared: &[u64], i: usize, j: usize) -> Turn
-    ensures { Turned ccd.now infrared.now i j result }
+const NOTHING: Parts = Parts {
+    ccd: 0,
+    infrared: 0,
+};
+
+// The turn after so much of the lists; none where a list has run out.
+fn turn_at(ccd: &[u64], infrared: &[u64], at: Parts) -> Option<Given>
+    ensures { Turned ccd.now infrared.now at.ccd at.infrared result }
 {
-    if ccd.len() <= i {
-        return Turn::Over;
-    }
-    if infrared.len() <= j {
-        return Turn::Over;
-    }
-    let mine = ccd[i];
-    let other = infrared[j];
+    let mine = *ccd.get(at.ccd)?;
+    let other = *infrared.get(at.infrared)?;
     let first = tick_in(mine);
     let second = tick_in(other);
     if first < second {
-        let next = i + 1;
-        return Turn::Given {
+        return Some(Given {
             entry: mine,
-            ccd: next,
-            infrared: j,
+            after: Parts {
+                ccd: at.ccd + 1,
+                ..at
+            },
             same: false,
-        };
+        });
     }
-    let next = j + 1;
-    Turn::Given {
+    Some(Given {
         entry: other,
-        ccd: i,
-        infrared: next,
+        after: Parts {
+            infrared: at.infrared + 1,
+            ..at
+        },
         same: first == second,
-    }
+    })
 }
 
 // Goes through both lists until one has run out.
@@ -65,31 +61,13 @@ pub(crate) fn walk(ccd: &[u64], infrared: &[u64]) -> Walked
     requires fact_2 { rising (ticks_in infrared.now) ≡ true }
     ensures { result ≡ walk_of ccd.now infrared.now }
 {
-    let mut i: usize = 0;
-    let mut j: usize = 0;
+    let mut parts = NOTHING;
     let mut same = false;
-    loop {
-        let turn = turn_at(ccd, infrared, i, j);
-        match turn {
-            Turn::Given {
-                entry: _,
-                ccd: n,
-                infrared: m,
-                same: both,
-            } => {
-                i = n;
-                j = m;
-                same = same | both;
-            }
-            Turn::Over => {
-                return Walked {
-                    ccd: i,
-                    infrared: j,
-                    same,
-                };
-            }
-        }
+    while let Some(given) = turn_at(ccd, infrared, parts) {
+        parts = given.after;
+        same = same | given.same;
     }
+    Walked { parts, same }
 }
 
 // Writes the merged part into the first places of the output.
@@ -97,25 +75,9 @@ pub(crate) fn write(ccd: &[u64], infrared: &[u64], merged: &mut [u64])
     requires { length (merged_part ccd.now infrared.now) ≤ length merged.old }
     ensures { merged.new ≡ merged_part ccd.now infrared.now ++ drop (length (merged_part ccd.now infrared.now)) merged.old }
 {
-    let mut i: usize = 0;
-    let mut j: usize = 0;
-    loop {
-        let turn = turn_at(ccd, infrared, i, j);
-        match turn {
-            Turn::Given {
-                entry,
-                ccd: n,
-                infrared: m,
-                same: _,
-            } => {
-                let at = i + j;
-                merged[at] = entry;
-                i = n;
-                j = m;
-            }
-            Turn::Over => {
-                return;
-            }
-        }
+    let mut parts = NOTHING;
+    while let Some(given) = turn_at(ccd, infrared, parts) {
+        merged[parts.ccd + parts.infrared] = given.entry;
+        parts = given.after;
     }
 }

@@ -5,26 +5,27 @@ use mathlib.Core.Bool.{Bool, true, false, cond, not}
 use mathlib.Core.List.{List, ◌++◌}
 use Prim.Native.Nat.{ℕ, ◌+◌, ◌≤◌}
 use native.Mathlib.Omega.{arith}
-use borrow.Author.Tests.{eq-eqb, ne_eqb, eqb-true}
 use lib.Dec.{eqb}
 use lib.ListN.{length, take, drop, length-append, length-take}
 use lib.Seq.{length-take-le}
 use Rattle.layout.specs.Numbers.{ascii}
 use Rattle.layout.specs.Written.{Front}
 use Rattle.text.specs.Lines.{head_text, head_line}
-use Rattle.import.specs.Read.{most_bytes, import_of, import_number, import_line, import_count}
-use Rattle.import.specs.declared.read.Import.{Import}
-use Rattle.import.specs.declared.read.Import.TheVariants as import
+use Rattle.std.specs.Prelude.{Result, Ok, Err}
+use Rattle.import.specs.Read.{most_bytes, import_of, import_error_number, import_error_line, import_number, import_count}
+use Rattle.import.specs.declared.reasons.Reason.TheVariants.{NoHeadLine, NoWordLine, NotRising, TooManyWords, AfterEnd, TooLong}
+use Rattle.import.specs.declared.reasons.ImportError.{ImportError}
+use Rattle.import.specs.declared.reasons.ImportError.TheVariants.{Refused, Short}
 use Rattle.import.proofs.Places.{import-place}
 use Rattle.merge.specs.Merge.{merge, share_tick}
-use Rattle.merged.specs.Text.{entries_in, entry_lines, merge_text, merged_text, longest, Mergeable, merged_by, merged_texts_of, merged_texts_number, merge_texts_number, text_after}
-use Rattle.merged.specs.declared.printed.MergedTexts.{MergedTexts}
-use Rattle.merged.specs.declared.printed.MergedTexts.TheVariants.{Done, Unread, SameTick}
-use Rattle.merged.proofs.EntriesRead.{entries-count, read-few, entries-rise, entries-short, import-done}
+use Rattle.merged.specs.Text.{entries_in, entry_lines, merge_text, merged_text, longest, Mergeable, merged_by, unread_or, merged_texts_of, merged_texts_number, merge_texts_number, text_after}
+use Rattle.merged.specs.declared.printed.MergeTextsError.{MergeTextsError}
+use Rattle.merged.specs.declared.printed.MergeTextsError.TheVariants.{Unread, SameTick}
+use Rattle.merged.proofs.EntriesRead.{entries-count, read-few, entries-rise, entries-short}
 use Rattle.merged.proofs.Merges.{merge-lines}
 
 -- two texts that are lists
-module _ (x y : List ℕ) {n m : ℕ} (first : import_of x ≡ import.Done n) (second : import_of y ≡ import.Done m) where
+module _ (x y : List ℕ) {n m : ℕ} (first : import_of x ≡ Ok n) (second : import_of y ≡ Ok m) where
   pub merged-fits : length (merged_text x y) ≤ longest
   unfolding merged_text merge_text head_line head_text ascii
   merged-fits =
@@ -38,7 +39,7 @@ module _ (x y : List ℕ) {n m : ℕ} (first : import_of x ≡ import.Done n) (s
         read-few y second,
       )
 
-  mergeable : Mergeable (entries_in x) (entries_in y)
+  pub mergeable : Mergeable (entries_in x) (entries_in y)
   unfolding merged_text
   mergeable =
       record {
@@ -48,135 +49,114 @@ module _ (x y : List ℕ) {n m : ℕ} (first : import_of x ≡ import.Done n) (s
         fits = merged-fits;
       }
 
+-- a refusal's number is not 0
+some-number : (e : ImportError) → eqb (import_error_number e) 0 ≡ false
+some-number (Refused NoHeadLine l) = refl
+some-number (Refused NoWordLine l) = refl
+some-number (Refused NotRising l) = refl
+some-number (Refused TooManyWords l) = refl
+some-number (Refused AfterEnd l) = refl
+some-number (Refused TooLong l) = refl
+some-number (Short n) = refl
+
 -- the number of an answer is that of the texts
-pub texts-number : (x y : List ℕ) {r : MergedTexts} → r ≡ merged_texts_of x y → merged_texts_number r ≡ merge_texts_number x y
+pub texts-number : (x y : List ℕ) {r : Result ℕ MergeTextsError} → r ≡ merged_texts_of x y → merged_texts_number r ≡ merge_texts_number x y
 unfolding merged_texts_of merged_by merged_texts_number merge_texts_number
-texts-number x y e = rw e (go (eqb (import_number (import_of x)) 0) (eqb (import_number (import_of y)) 0) (share_tick (entries_in x) (entries_in y)))
+texts-number x y e = rw e (go (import_of x) (import_of y) (share_tick (entries_in x) (entries_in y)))
   where
-    go : (a b c : Bool)
-        → merged_texts_number
-        (cond (not a) (Unread 0 (import_number (import_of x)) (import_line (import_of x)))
-        (cond (not b) (Unread 1 (import_number (import_of y)) (import_line (import_of y)))
-        (cond c SameTick (Done (length (merge_text (entries_in x) (entries_in y)))))))
-        ≡ cond (not a) (import_number (import_of x)) (cond (not b) (import_number (import_of y)) (cond c 53 0))
-    go false b c = refl
-    go true false c = refl
-    go true true true = refl
-    go true true false = refl
+    go : (a b : Result ℕ ImportError) (c : Bool)
+        → merged_texts_number (unread_or 0 a (unread_or 1 b (cond c (Err SameTick) (Ok (length (merge_text (entries_in x) (entries_in y)))))))
+        ≡ cond (not (eqb (import_number a) 0)) (import_number a) (cond (not (eqb (import_number b) 0)) (import_number b) (cond c 53 0))
+    go (Err e) b c = rw (some-number e)
+    go (Ok n) (Err e) c = rw (some-number e)
+    go (Ok n) (Ok m) true = refl
+    go (Ok n) (Ok m) false = refl
 
 -- a text that is no list
-pub unread-kept : (g n l : ℕ) {r : MergedTexts} → r ≡ Unread g n l → (text old : List ℕ) → old ≡ text_after r text old
-unfolding text_after
-unread-kept g n l e text old = rw e
-
-module _ (x y : List ℕ) {a : Import} (first : a ≡ import_of x) {k : ℕ} (number : k ≡ import_number a) where
-  pub first-unread : (k ≡ 0 → ⊥) → {r : MergedTexts} → r ≡ Unread 0 (import_number a) (import_line a) → r ≡ merged_texts_of x y
+module _ (x y : List ℕ) {e : ImportError} where
+  pub first-unread : Err e ≡ import_of x → Err (Unread 0 e) ≡ merged_texts_of x y
   unfolding merged_texts_of
-  first-unread some e = rw (← first, ← number, ne_eqb k 0 some) (e ∙ rw (← number))
+  first-unread is = rw (← is)
 
-  module _ (none : k ≡ 0) where
-    first_read : import_of x ≡ import.Done (import_count a)
-    first_read = import-done x first (sym number ∙ none)
-
-    no_number : eqb (import_number (import_of x)) 0 ≡ true
-    no_number = rw (← first) (eq-eqb (import_number a) 0 (sym number ∙ none))
-
-    module _ {b : Import} (second : b ≡ import_of y) {j : ℕ} (number' : j ≡ import_number b) where
-      pub second-unread : (j ≡ 0 → ⊥) → {r : MergedTexts} → r ≡ Unread 1 (import_number b) (import_line b) → r ≡ merged_texts_of x y
-      unfolding merged_texts_of
-      second-unread some e = rw (no_number, ← second, ← number', ne_eqb j 0 some) (e ∙ rw (← number'))
-
-      module _ (none' : j ≡ 0) (L : List ℕ) (list : take (import_count a) L ≡ entries_in x) {n : ℕ} (count : n ≡ import_count a)
-          (K : List ℕ) (list' : take (import_count b) K ≡ entries_in y) {m : ℕ} (count' : m ≡ import_count b) where
-        second-read : import_of y ≡ import.Done (import_count b)
-        second-read = import-done y second (sym number' ∙ none')
-
-        are : take n L ≡ entries_in x
-        are = rw count list
-
-        are' : take m K ≡ entries_in y
-        are' = rw count' list'
-
-        pub lists-mergeable : Mergeable (take n L) (take m K)
-        lists-mergeable = rw (are, are') (mergeable x y first_read second-read)
-
-        pub merged-answer : {r : MergedTexts} → r ≡ merged_by (take n L) (take m K) → r ≡ merged_texts_of x y
-        unfolding merged_texts_of
-        merged-answer e = rw (no_number, ← second, eq-eqb (import_number b) 0 (sym number' ∙ none')) (e ∙ rw (are, are'))
-
-        pub merged-after : (r : MergedTexts) (old : List ℕ) {new : List ℕ} → new ≡ text_after r (merge_text (take n L) (take m K)) old
-            → new ≡ text_after r (merged_text x y) old
-        unfolding merged_text
-        merged-after r old e = rw (are, are') at e
+  pub second-unread : {n : ℕ} → Ok n ≡ import_of x → Err e ≡ import_of y → Err (Unread 1 e) ≡ merged_texts_of x y
+  unfolding merged_texts_of
+  second-unread first is = rw (← first, ← is)
 
 -- the first places of an array
-module _ (x : List ℕ) {a : Import} (is : a ≡ import_of x) {k : ℕ} (number : k ≡ import_number a) (none : k ≡ 0) {n : ℕ} (count : n ≡ import_count a)
-    (L : List ℕ) (list : take (import_count a) L ≡ entries_in x) where
+module _ (x : List ℕ) {n : ℕ} (read : Ok n ≡ import_of x) (L : List ℕ) (list : take n L ≡ entries_in x) where
   pub count_long : n ≡ length (take n L)
-  count_long = rw count (sym (ap length list ∙ entries-count x (import-done x is (sym number ∙ none))))
+  count_long = sym (ap length list ∙ entries-count x (sym read))
 
   pub count-few : n ≤ length L
   count-few = omega (arith, count_long, length-take n L)
 
+-- two texts that are read into arrays
+module _ (x y : List ℕ) {n : ℕ} (first : Ok n ≡ import_of x) (L : List ℕ) (list : take n L ≡ entries_in x) {m : ℕ} (second : Ok m ≡ import_of y)
+    (K : List ℕ) (list' : take m K ≡ entries_in y) where
+  pub lists-mergeable : Mergeable (take n L) (take m K)
+  lists-mergeable = rw (list, list') (mergeable x y (sym first) (sym second))
+
+  pub merged-answer : {r : Result ℕ MergeTextsError} → r ≡ merged_by (take n L) (take m K) → r ≡ merged_texts_of x y
+  unfolding merged_texts_of
+  merged-answer e = rw (← first, ← second) (e ∙ rw (list, list'))
+
+  pub merged-after : (r : Result ℕ MergeTextsError) (old : List ℕ) {new : List ℕ} → new ≡ text_after r (merge_text (take n L) (take m K)) old
+      → new ≡ text_after r (merged_text x y) old
+  unfolding merged_text
+  merged-after r old e = rw (list, list') at e
+
 -- the answers by cases: a text that is no list, a tick in both, or two lists merged
-data Answered (x y : List ℕ) : MergedTexts → Type 0 where
-  no-ccd : Answered x y (Unread 0 (import_number (import_of x)) (import_line (import_of x)))
-  no-infrared : Answered x y (Unread 1 (import_number (import_of y)) (import_line (import_of y)))
-  shared : Answered x y SameTick
-  both : import_number (import_of x) ≡ 0 → import_number (import_of y) ≡ 0 → Answered x y (Done (length (merged_text x y)))
+data Answered (x y : List ℕ) : Result ℕ MergeTextsError → Type 0 where
+  no-ccd : {e : ImportError} → import_of x ≡ Err e → Answered x y (Err (Unread 0 e))
+  no-infrared : {e : ImportError} → import_of y ≡ Err e → Answered x y (Err (Unread 1 e))
+  shared : Answered x y (Err SameTick)
+  both : {n m : ℕ} → import_of x ≡ Ok n → import_of y ≡ Ok m → Answered x y (Ok (length (merged_text x y)))
 
-answered : (x y : List ℕ) {r : MergedTexts} → r ≡ merged_texts_of x y → Answered x y r
+answered : (x y : List ℕ) {r : Result ℕ MergeTextsError} → r ≡ merged_texts_of x y → Answered x y r
 unfolding merged_texts_of merged_by merged_text
-answered x y e =
-    rw e (go (eqb (import_number (import_of x)) 0) refl (eqb (import_number (import_of y)) 0) refl (share_tick (entries_in x) (entries_in y)))
+answered x y e = rw e (go (import_of x) refl (import_of y) refl (share_tick (entries_in x) (entries_in y)))
   where
-    go : (a : Bool) → eqb (import_number (import_of x)) 0 ≡ a → (b : Bool) → eqb (import_number (import_of y)) 0 ≡ b → (c : Bool)
+    go : (a : Result ℕ ImportError) → import_of x ≡ a → (b : Result ℕ ImportError) → import_of y ≡ b → (c : Bool)
         → Answered x y
-        (cond (not a) (Unread 0 (import_number (import_of x)) (import_line (import_of x)))
-        (cond (not b) (Unread 1 (import_number (import_of y)) (import_line (import_of y)))
-        (cond c SameTick (Done (length (merge_text (entries_in x) (entries_in y)))))))
-    go false p b q c = no-ccd
-    go true p false q c = no-infrared
-    go true p true q true = shared
-    go true p true q false = both (eqb-true (import_number (import_of x)) 0 p) (eqb-true (import_number (import_of y)) 0 q)
-
-differ : {A : Type 0} → ◌≡◌ {A = ℕ} 0 1 → A
-differ z = absurd (omega arith)
+        (unread_or 0 a (unread_or 1 b (cond c (Err SameTick) (Ok (length (merge_text (entries_in x) (entries_in y)))))))
+    go (Err e) p b q c = no-ccd p
+    go (Ok n) p (Err e) q c = no-infrared q
+    go (Ok n) p (Ok m) q true = shared
+    go (Ok n) p (Ok m) q false = both p q
 
 record Made (x y : List ℕ) (n : ℕ) : Type 0 where
   long : n ≡ length (merged_text x y)
   fits : length (merged_text x y) ≤ longest
 
-made_of : {x y : List ℕ} {r : MergedTexts} → Answered x y r → {n : ℕ} → r ≡ Done n → Made x y n
-made_of no-ccd e = differ (cc)
-made_of no-infrared e = differ (cc)
-made_of shared e = differ (cc)
-made_of {x} {y} (both p q) e = record { long = cc; fits = merged-fits x y (import-done x refl p) (import-done y refl q) }
+made_of : {x y : List ℕ} {r : Result ℕ MergeTextsError} → Answered x y r → {n : ℕ} → r ≡ Ok n → Made x y n
+made_of (no-ccd p) e = absurd (cc)
+made_of (no-infrared p) e = absurd (cc)
+made_of shared e = absurd (cc)
+made_of {x} {y} (both p q) e = record { long = cc; fits = merged-fits x y p q }
 
-line-few : (a : Import) (x : List ℕ) → a ≡ import_of x → import_line a ≤ most_bytes + 1
-line-few (import.Done n) x e = omega arith
-line-few (import.Refused n l) x e = import-place x (sym e)
-line-few (import.Short n) x e = omega arith
+line-few : (x : List ℕ) (e : ImportError) → import_of x ≡ Err e → import_error_line e ≤ most_bytes + 1
+line-few x (Refused r l) is = import-place x is
+line-few x (Short n) is = omega arith
 
-record Told (g l : ℕ) : Type 0 where
+record Told (g : ℕ) (e : ImportError) : Type 0 where
   list : g ≤ 1
-  line : l ≤ most_bytes + 1
+  line : import_error_line e ≤ most_bytes + 1
 
-told_of : {x y : List ℕ} {r : MergedTexts} → Answered x y r → {g n l : ℕ} → r ≡ Unread g n l → Told g l
-told_of {x} no-ccd {g} {l = l} e =
+told_of : {x y : List ℕ} {r : Result ℕ MergeTextsError} → Answered x y r → {g : ℕ} {e : ImportError} → r ≡ Err (Unread g e) → Told g e
+told_of {x} (no-ccd {e = f} p) {g} {e} is =
     let list : g ≡ 0 = cc in
-    let line : l ≡ import_line (import_of x) = cc in
-    record { list = omega arith; line = omega (arith, line-few (import_of x) x refl) }
-told_of {y = y} no-infrared {g} {l = l} e =
+    let same : f ≡ e = cc in
+    record { list = omega arith; line = rw (← same) (line-few x f p) }
+told_of {y = y} (no-infrared {e = f} p) {g} {e} is =
     let list : g ≡ 1 = cc in
-    let line : l ≡ import_line (import_of y) = cc in
-    record { list = omega arith; line = omega (arith, line-few (import_of y) y refl) }
-told_of shared e = differ (cc)
-told_of (both p q) e = differ (cc)
+    let same : f ≡ e = cc in
+    record { list = omega arith; line = rw (← same) (line-few y f p) }
+told_of shared is = absurd (cc)
+told_of (both p q) is = absurd (cc)
 
 -- what an answer says
-module _ (x y : List ℕ) {r : MergedTexts} (is : r ≡ merged_texts_of x y) where
-  module _ {n : ℕ} (done : r ≡ Done n) where
+module _ (x y : List ℕ) {r : Result ℕ MergeTextsError} (is : r ≡ merged_texts_of x y) where
+  module _ {n : ℕ} (done : r ≡ Ok n) where
     made : Made x y n
     made = made_of (answered x y is) done
 
@@ -196,9 +176,9 @@ module _ (x y : List ℕ) {r : MergedTexts} (is : r ≡ merged_texts_of x y) whe
           counts = (within, sym (length-take-le n new within));
         }
 
-  module _ {g n l : ℕ} (unread : r ≡ Unread g n l) where
+  module _ {g : ℕ} {e : ImportError} (unread : r ≡ Err (Unread g e)) where
     pub unread-list : g ≤ 1
     unread-list = (told_of (answered x y is) unread).list
 
-    pub unread-line : l ≤ most_bytes + 1
+    pub unread-line : import_error_line e ≤ most_bytes + 1
     unread-line = (told_of (answered x y is) unread).line

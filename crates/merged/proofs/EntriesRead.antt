@@ -13,10 +13,8 @@ use Rattle.timed.specs.List.{rising, most_words, is_list}
 use Rattle.text.specs.Lines.{timed_text}
 use Rattle.import.specs.Line.{is_text, tick_limit, word_limit, tick_in, word_in, end_in, reads_timed, reads_end, line_of}
 use Rattle.import.specs.Read.{most_bytes, lines, read_of, answer_by, import_of, import_number, import_count, word_of, tick_of, word_lines_in, words_in, ticks_in}
-use Rattle.import.specs.declared.line.Line.TheVariants.{Word, End, Other}
-use Rattle.import.specs.declared.read.Import.{Import}
-use Rattle.import.specs.declared.read.Import.TheVariants.{Done, Refused, Short}
-use Rattle.import.proofs.Places.{import-not-short}
+use Rattle.import.specs.declared.line.Line.TheVariants.{Word, End}
+use Rattle.std.specs.Prelude.{Some, None, Ok}
 use Rattle.import.proofs.Lists.{import-words, import-list}
 use Rattle.merge.specs.Merge.{tick_in as entry_tick, word_in as entry_word, ticks_in as entry_ticks}
 use Rattle.merge.proofs.Entries.{entry-tick}
@@ -29,7 +27,7 @@ unfolding line_of reads_timed
 within l = go (reads_timed l (tick_in l) (word_in l)) refl (reads_end l (end_in l))
   where
     go : (z : Bool) → reads_timed l (tick_in l) (word_in l) ≡ z → (e : Bool)
-        → let k = cond z (Word (tick_in l) (word_in l)) (cond e (End (end_in l)) Other) in (tick_of k < tick_limit) × (word_of k < word_limit)
+        → let k = cond z (Some (Word (tick_in l) (word_in l))) (cond e (Some (End (end_in l))) None) in (tick_of k < tick_limit) × (word_of k < word_limit)
     go true p e =
         let a = ltb (tick_in l) tick_limit in
         let b = ltb (word_in l) word_limit in
@@ -74,7 +72,7 @@ lines-small (l ∷ ls) =
     let small = within l in one-small (tick_of (line_of l) * 65536 + word_of (line_of l)) (omega arith) (lines-small ls)
 
 -- a text that is a list of n words
-module _ (text : List ℕ) {n : ℕ} (done : import_of text ≡ Done n) where
+module _ (text : List ℕ) {n : ℕ} (done : import_of text ≡ Ok n) where
   abbrev lines_read : List (List ℕ)
   lines_read = take (import_count (import_of text)) (drop 1 (lines text))
 
@@ -105,33 +103,3 @@ module _ (text : List ℕ) {n : ℕ} (done : import_of text ≡ Done n) where
 
   pub entries-small : Small (entries_in text)
   entries-small = rw as-lines (lines-small lines_read)
-
--- a refusal's number is not 0
-never : {A : Type 0} → ◌≡◌ {A = ℕ} 0 1 → A
-never z = absurd (omega arith)
-
-import-refused : (text : List ℕ) {n l : ℕ} → import_of text ≡ Refused n l → n ≡ 0 → ⊥
-unfolding import_of answer_by
-import-refused text {n} {l} e = go (ltb most_bytes (length text)) (eqb number 0) refl (eqb (read_of text).line 0) e
-  where
-    number : ℕ
-    number = (read_of text).number
-
-    go : (z a : Bool) → eqb number 0 ≡ a → (b : Bool)
-        → cond z (Refused 96 (length (lines (take (most_bytes + 1) text))))
-        (cond (not a) (Refused number (read_of text).line) (cond b (Refused 91 1) (Done (read_of text).count)))
-        ≡ Refused n l
-        → n ≡ 0 → ⊥
-    go true a x b h zero = let same : 96 ≡ n = cc in omega arith
-    go false false x b h zero = let same : number ≡ n = cc in eqb-false number 0 x (same ∙ zero)
-    go false true x true h zero = let same : 91 ≡ n = cc in omega arith
-    go false true x false h zero = never (cc)
-
--- a text without a number is a list
-pub import-done : (text : List ℕ) {a : Import} → a ≡ import_of text → import_number a ≡ 0 → import_of text ≡ Done (import_count a)
-import-done text {a} is none = go a is none
-  where
-    go : (r : Import) → r ≡ import_of text → import_number r ≡ 0 → import_of text ≡ Done (import_count r)
-    go (Done n) e zero = sym e
-    go (Refused n l) e zero = absurd (import-refused text (sym e) zero)
-    go (Short n) e zero = absurd (import-not-short text (sym e))

@@ -13,13 +13,18 @@ use Rattle.layout.specs.Written.{Written, Front}
 use Rattle.layout.proofs.Writing.{written_is, written-front}
 use Rattle.text.specs.Lines.{head_line, word_line}
 use Rattle.merge.specs.Merge.{tick_in, word_in, merge, merged_part, share_tick}
-use Rattle.merge.specs.Answer.{merging_of, merging_number, merge_number, rest_of, rest_after, output_after}
-use Rattle.merge.specs.declared.answer.Merging.{Merging}
+use Rattle.std.specs.Prelude.{Ok, Err}
+use Rattle.merge.specs.Answer.{merging_of, rest_of, rest_after, output_after}
+use Rattle.merge.specs.declared.answer.Parts.{Parts}
+use Rattle.merge.specs.declared.answer.MergeError.{MergeError}
+use Rattle.merge.specs.declared.answer.MergeError.TheVariants as merge
+use Rattle.merge.proofs.Answers.{counts}
+use Rattle.merged.specs.declared.printed.MergeTextsError.{MergeTextsError}
+use Rattle.merged.specs.declared.printed.MergeTextsError.TheVariants.{SameTick}
 use Rattle.merge.specs.Interleaved.{Interleaved, nothing, from-ccd, from-infrared}
 use Rattle.merge.proofs.Rests.{merged-whole}
 use Rattle.merge.proofs.Interleaving.{merge-interleaved}
 use Rattle.merged.specs.Text.{entry_lines, merge_text, most_merged, longest, Mergeable, merged_by, text_after}
-use Rattle.merged.specs.declared.printed.MergedTexts.TheVariants.{Done, SameTick}
 use Rattle.merged.proofs.LineByLine.{lines-append}
 
 -- the merge has the entries of both lists, and their lines
@@ -83,40 +88,35 @@ module _ (xs ys : List ℕ) (h : Mergeable xs ys) (apart : share_tick xs ys ≡ 
           → Written l 0 (head_line ++ entry_lines (take (length xs + length ys - length rest) merged) ++ entry_lines rest) r k → Written l 0 (merge_text xs ys) r k
       merge-written = written_is text-is
 
--- the answer of `merging` for an array of 512 places, and its number
-module _ (xs ys : List ℕ) (h : Mergeable xs ys) (a : Merging) (answer : merging_number a ≡ merge_number xs ys most_merged) {n : ℕ} (is : n ≡ merging_number a) where
-  by-share : n ≡ cond (share_tick xs ys) 53 0
-  unfolding merge_number
-  by-share = is ∙ answer ∙ rw (h.ccd-rises, h.infrared-rises, room xs ys h)
+-- the answer of `merging` for an array of 512 places
+module _ (xs ys : List ℕ) (h : Mergeable xs ys) where
+  answer-is : merging_of xs ys most_merged ≡ cond (share_tick xs ys) (Err merge.SameTick) (Ok (counts xs ys))
+  unfolding merging_of
+  answer-is = rw (h.ccd-rises, h.infrared-rises, room xs ys h)
 
-  pub lists-apart : n ≡ 0 → share_tick xs ys ≡ false
-  lists-apart none = go (share_tick xs ys) refl by-share
+  pub lists-apart : {p : Parts} → Ok p ≡ merging_of xs ys most_merged → share_tick xs ys ≡ false
+  lists-apart {p} is = go (share_tick xs ys) refl (is ∙ answer-is)
     where
-      go : (b : Bool) → share_tick xs ys ≡ b → n ≡ cond b 53 0 → share_tick xs ys ≡ false
+      go : (b : Bool) → share_tick xs ys ≡ b → Ok p ≡ cond b (Err merge.SameTick) (Ok (counts xs ys)) → share_tick xs ys ≡ false
       go false e k = e
-      go true e k = absurd (omega arith)
+      go true e k = absurd (cc)
 
-  module _ (some : n ≡ 0 → ⊥) where
-    pub lists-share : SameTick ≡ merged_by xs ys
-    unfolding merged_by
-    lists-share = go (share_tick xs ys) by-share
-      where
-        go : (b : Bool) → n ≡ cond b 53 0 → SameTick ≡ cond b SameTick (Done (length (merge_text xs ys)))
-        go true k = refl
-        go false k = absurd (some k)
+  pub lists-refused : {r : MergeError} → Err r ≡ merging_of xs ys most_merged → Err SameTick ≡ merged_by xs ys
+  unfolding merged_by
+  lists-refused {r} is = go (share_tick xs ys) (is ∙ answer-is)
+    where
+      go : (b : Bool) → Err r ≡ cond b (Err merge.SameTick) (Ok (counts xs ys)) → Err SameTick ≡ cond b (Err SameTick) (Ok (length (merge_text xs ys)))
+      go true k = refl
+      go false k = absurd (cc)
 
-  module _ (none : n ≡ 0) {old : List ℕ} (long : length old ≡ longest) {k : ℕ} {new : List ℕ} (w : Written old 0 (merge_text xs ys) k new) where
+  module _ {old : List ℕ} (long : length old ≡ longest) {k : ℕ} {new : List ℕ} (w : Written old 0 (merge_text xs ys) k new) where
     front : Front old (merge_text xs ys) k new
     front = let fits = h.fits in written-front w (omega arith)
 
-    pub lists-done : Done k ≡ merged_by xs ys
+    pub lists-done : share_tick xs ys ≡ false → Ok k ≡ merged_by xs ys
     unfolding merged_by
-    lists-done = rw (lists-apart none, front.long)
+    lists-done apart = rw (apart, front.long)
 
-    pub lists-after : new ≡ text_after (Done k) (merge_text xs ys) old
+    pub lists-after : new ≡ text_after (Ok k) (merge_text xs ys) old
     unfolding text_after
     lists-after = front.bytes ∙ rw front.long
-
-pub share-kept : (text old : List ℕ) → old ≡ text_after SameTick text old
-unfolding text_after
-share-kept text old = refl

@@ -16,7 +16,7 @@ use Rattle.text.specs.Lines.{head_text, head_line, timed_text, word_line}
 use Rattle.import.specs.Line.{tick_limit, line_of}
 use Rattle.import.specs.Read.{most_bytes, lines, begin, judged, judged_all, by_line, read_of, answer_by, import_of, word_of, tick_of, word_lines_in, words_in, ticks_in}
 use Rattle.import.specs.declared.line.Line.TheVariants.{Word}
-use Rattle.import.specs.declared.read.Import.TheVariants.{Done}
+use Rattle.std.specs.Prelude.{Some, None, Ok}
 use Rattle.import.proofs.Printed.{same_text, timed-line, plain-head, plain-timed, lines-line}
 use Rattle.merge.specs.Merge.{tick_in, word_in, ticks_in as entry_ticks, merge, share_tick}
 use Rattle.merge.specs.Interleaved.{Interleaved, nothing, from-ccd, from-infrared}
@@ -68,7 +68,7 @@ lines-text es =
     ap lines (append_snoc head_text 10 (entry_lines es)) ∙ lines-line head_text plain-head (entry_lines es) ∙ rw (lines-entries es)
 
 -- each is read as its entry
-entry-line : (e : ℕ) → tick_in e < tick_limit → line_of (timed_text (tick_in e) (word_in e)) ≡ Word (tick_in e) (word_in e)
+entry-line : (e : ℕ) → tick_in e < tick_limit → line_of (timed_text (tick_in e) (word_in e)) ≡ Some (Word (tick_in e) (word_in e))
 entry-line e h = timed-line (tick_in e) (word_in e) h (omega arith)
 
 texts-back : {t : ℕ} {es : List ℕ} → Ready t es → entries (map tick_of (map line_of (line_texts es))) (map word_of (map line_of (line_texts es))) ≡ es
@@ -80,36 +80,36 @@ texts-back (more t e h small rest) =
 
 -- each is taken
 one-judged : (line count least e : ℕ) → (line ≡ 0 → ⊥) → least ≤ tick_in e → tick_in e < tick_limit → count < most_words
-    → judged (record { number = 0; line = line; count = count; least = least; ended = false }) (timed_text (tick_in e) (word_in e))
-    ≡ record { number = 0; line = line + 1; count = count + 1; least = tick_in e + 1; ended = false }
+    → judged (record { refused = None; line = line; count = count; least = least; ended = false }) (timed_text (tick_in e) (word_in e))
+    ≡ record { refused = None; line = line + 1; count = count + 1; least = tick_in e + 1; ended = false }
 unfolding judged by_line
 one-judged line count least e some h small few =
     rw (ne_eqb line 0 some, entry-line e small, le-ltb (tick_in e) least h, lt-leb most_words count few)
 
 all-judged : (line count : ℕ) {least : ℕ} {es : List ℕ} → (line ≡ 0 → ⊥) → Ready least es → count + length es ≤ most_words
-    → answer_by (judged_all (record { number = 0; line = line; count = count; least = least; ended = false }) (line_texts es)) ≡ Done (count + length es)
+    → answer_by (judged_all (record { refused = None; line = line; count = count; least = least; ended = false }) (line_texts es)) ≡ Ok (count + length es)
 unfolding judged_all answer_by line_texts
-all-judged line count some over few = let n : count ≡ count + 0 = omega arith in rw (ne_eqb line 0 some) (ap Done n)
+all-judged line count some over few = let n : count ≡ count + 0 = omega arith in rw (ne_eqb line 0 some) (ap Ok n)
 all-judged line count some (more least e {es = es} h small rest) few =
     let n : count + 1 + length es ≡ count + suc (length es) = omega arith in
     ap (λ q. answer_by (judged_all q (line_texts es))) (one-judged line count least e some h small (omega arith))
     ∙ all-judged (line + 1) (count + 1) (λ (z : _). omega arith) rest (omega arith)
-    ∙ ap Done n
+    ∙ ap Ok n
 
-head-judged : judged begin head_text ≡ record { number = 0; line = 1; count = 0; least = 0; ended = false }
+head-judged : judged begin head_text ≡ record { refused = None; line = 1; count = 0; least = 0; ended = false }
 unfolding judged
 head-judged = rw (same_text head_text)
 
 -- a text of entries is a list, and these are its entries
 module _ {es : List ℕ} (h : Ready 0 es) (few : length es ≤ most_words) (short : length (head_line ++ entry_lines es) ≤ most_bytes) where
-  text-read : import_of (head_line ++ entry_lines es) ≡ Done (length es)
+  text-read : import_of (head_line ++ entry_lines es) ≡ Ok (length es)
   unfolding import_of read_of judged_all
   text-read =
       let n : 0 + length es ≡ length es = omega arith in
       rw (le-ltb most_bytes (length (head_line ++ entry_lines es)) short, lines-text es)
       (ap (λ q. answer_by (judged_all q (line_texts es))) head-judged
       ∙ all-judged 1 0 (λ (z : _). omega arith) h (omega arith)
-      ∙ ap Done n)
+      ∙ ap Ok n)
 
   text-entries : entries_in (head_line ++ entry_lines es) ≡ es
   unfolding entries_in ticks_in words_in word_lines_in
@@ -122,7 +122,7 @@ small-interleaved (from-ccd x h) (one-small e small a) b = one-small e small (sm
 small-interleaved (from-infrared y h) a (one-small e small b) = one-small e small (small-interleaved h a b)
 
 -- two texts that are lists, with no tick in common and at most 256 words in all
-module _ (x y : List ℕ) {n m : ℕ} (first : import_of x ≡ Done n) (second : import_of y ≡ Done m) (apart : share_tick (entries_in x) (entries_in y) ≡ false)
+module _ (x y : List ℕ) {n m : ℕ} (first : import_of x ≡ Ok n) (second : import_of y ≡ Ok m) (apart : share_tick (entries_in x) (entries_in y) ≡ false)
     (few : n + m ≤ most_words) where
   merge-ready : Ready 0 (merge (entries_in x) (entries_in y))
   merge-ready =
@@ -144,9 +144,9 @@ module _ (x y : List ℕ) {n m : ℕ} (first : import_of x ≡ Done n) (second :
         entries-short y second,
       )
 
-  pub merged-read : import_of (merged_text x y) ≡ Done (n + m)
+  pub merged-read : import_of (merged_text x y) ≡ Ok (n + m)
   unfolding merged_text merge_text
-  merged-read = text-read merge-ready (omega (arith, merge-long)) merge-short ∙ ap Done merge-long
+  merged-read = text-read merge-ready (omega (arith, merge-long)) merge-short ∙ ap Ok merge-long
 
   pub merged-entries : entries_in (merged_text x y) ≡ merge (entries_in x) (entries_in y)
   unfolding merged_text merge_text

@@ -3,13 +3,14 @@ ghost use Rattle.std.specs.Prelude.{◌≡◌, ◌+◌, ◌*◌, length, take};
 ghost use Rattle.import.specs.Read.{import_of, import_count};
 ghost use Rattle.merged.specs.Text.{entries, entries_in};
 
-use import::read::{Import, read_list};
+use import::read::read_list;
+use import::reasons::ImportError;
 use timed::MOST_WORDS;
 
 fn entry_of(tick: u32, word: u16) -> u64
     ensures { result ≡ tick * 65536 + word }
 {
-    tick as u64 * 65536 + word as u64
+    u64::from(tick) * 65536 + u64::from(word)
 }
 
 // Ticks and words as entries.
@@ -18,15 +19,13 @@ fn pack(ticks: &[u32], words: &[u16], list: &mut [u64])
     requires fact_2 { length list.old ≡ length ticks.now }
     ensures { list.new ≡ entries ticks.now words.now }
 {
-    let mut i: usize = 0;
-    while i < ticks.len() {
-        list[i] = entry_of(ticks[i], words[i]);
-        i = i + 1;
+    for (i, tick) in ticks.iter().enumerate() {
+        list[i] = entry_of(*tick, words[i]);
     }
 }
 
 // Reads a list from text, and leaves its entries in the first places.
-pub(crate) fn read_entries(text: &[u8], list: &mut [u64; MOST_WORDS]) -> Import
+pub(crate) fn read_entries(text: &[u8], list: &mut [u64; MOST_WORDS]) -> Result<usize, ImportError>
     ensures value { result ≡ import_of text.now }
     ensures list_after { take (import_count result) list.new ≡ entries_in text.now }
 {

@@ -1,9 +1,9 @@
 // Request P6's refusals in words.
 ghost use Rattle.std.specs.Prelude.{◌≡◌};
-ghost use Rattle.layout.specs.Written.{Written};
+ghost use Rattle.layout.specs.Adds.{Adds};
 ghost use Rattle.merged.specs.Refusal.{reason_index, refusal_text};
 
-use layout::template::put_template;
+use layout::writer::Writer;
 
 // The first of the numbers.
 const NOT_PASSED: u8 = 51;
@@ -12,24 +12,19 @@ const NOT_PASSED: u8 = 51;
 fn reason_index(number: u8) -> u64
     ensures { result ≡ reason_index number }
 {
-    if number < NOT_PASSED {
-        return 0;
-    }
-    (number - NOT_PASSED) as u64
+    u64::from(number.saturating_sub(NOT_PASSED))
 }
 
-pub fn put_refusal(out: &mut [u8], at: usize, number: u8) -> usize
-    ensures { Written out.old at (refusal_text number) result out.new }
+pub fn put_refusal(writer: &mut Writer<'_>, number: u8)
+    ensures { Adds writer.old writer.new (refusal_text number) }
 {
-    let values = [number as u64, reason_index(number)];
-    put_template(
-        out,
-        at,
+    let values = [u64::from(number), reason_index(number)];
+    writer.put_template(
         b"refused @@@: {the word is not passed on: not allowed, not in the operator's group, or the head is busy\
         |the ticks of a list do not rise\
         |the same tick in both lists\
         |no room for the merged part}\n",
         &values,
         &[],
-    )
+    );
 }

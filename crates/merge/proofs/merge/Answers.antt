@@ -1,28 +1,22 @@
--- `merge::merge` meets its contract.
+-- `merge::merge` meets its contract: the rest is of the CCD list where that has not run out, and else of the infrared list.
 use borrow.Author.Rules.{rules}
-use Rattle.merge.proofs.Handing.{ccd-within, ccd-scaled, ccd-handed, infrared-within, infrared-scaled, infrared-handed}
+use Rattle.merge.proofs.Handing.{ccd-handed, infrared-within, infrared-scaled, infrared-handed, none-handed}
 use Rattle.merge.proofs.merge.Goals as goal
 
-pub offset_bounds-ccd-start : goal.offset_bounds-ccd-start
-offset_bounds-ccd-start c = search (rules, ccd-scaled)
+pub returns-then-parts-ccd-clause-result_value : goal.returns-then-parts-ccd-clause-result_value
+returns-then-parts-ccd-clause-result_value c = ccd-handed _ _ _ c.in-Ok.ensures.value c.if-parts-ccd.true
 
-pub slice_bounds-result-count : goal.slice_bounds-result-count
-slice_bounds-result-count c = search (rules, ccd-within)
+pub offset_bounds-infrared-parts : goal.offset_bounds-infrared-parts
+offset_bounds-infrared-parts c = search (rules, infrared-scaled)
 
-pub slice_bounds-result-start : goal.slice_bounds-result-start
-slice_bounds-result-start c = search (rules, ccd-within)
+pub slice_bounds-result-count-in-Ok : goal.slice_bounds-result-count-in-Ok
+slice_bounds-result-count-in-Ok c = infrared-within _ _ _ c.in-Ok.ensures.value
 
-pub returns-then-told-eq-CCD : goal.returns-then-told-eq-CCD
-returns-then-told-eq-CCD c = search (rules, ccd-handed)
+pub slice_bounds-result-start-in-Ok : goal.slice_bounds-result-start-in-Ok
+slice_bounds-result-start-in-Ok c = search (rules, infrared-within)
 
-pub offset_bounds-infrared-start : goal.offset_bounds-infrared-start
-offset_bounds-infrared-start c = search (rules, infrared-scaled)
+pub returns-else-parts-ccd-clause-result_value : goal.returns-else-parts-ccd-clause-result_value
+returns-else-parts-ccd-clause-result_value c = infrared-handed _ _ _ c.in-Ok.ensures.value c.if-parts-ccd.false
 
-pub slice_bounds-result-count-2 : goal.slice_bounds-result-count-2
-slice_bounds-result-count-2 c = search (rules, infrared-within)
-
-pub slice_bounds-result-start-2 : goal.slice_bounds-result-start-2
-slice_bounds-result-start-2 c = search (rules, infrared-within)
-
-pub returns : goal.returns
-returns c = search (rules, infrared-handed)
+pub returns-in-Err-clause-result_value : goal.returns-in-Err-clause-result_value
+returns-in-Err-clause-result_value c = none-handed _ _ _ c.in-Err.ensures.value

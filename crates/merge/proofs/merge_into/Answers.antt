@@ -1,13 +1,7 @@
--- `merge::merge_into` meets its contract.
+-- `merge::merge_into` meets its contract: there is room for a merged part that is told.
 use borrow.Author.Rules.{rules}
-use Rattle.merge.proofs.Answers.{output-refused, output-done, done-room}
+use Rattle.merge.proofs.Answers.{part-room}
 use Rattle.merge.proofs.merge_into.Goals as goal
 
-pub returns-then-number-ne0 : goal.returns-then-number-ne0
-returns-then-number-ne0 c = search (rules, output-refused)
-
 pub write-requires : goal.write-requires
-write-requires c = search (rules, done-room)
-
-pub returns : goal.returns
-returns c = record { value = search rules; result_value = search rules; merged_after = search (rules, output-done) }
+write-requires c = search (rules, part-room)

@@ -1,20 +1,13 @@
--- `merge::rises` meets its contract. The loop's invariant: the ticks rise if they do from i on.
-use native.Mathlib.Omega.{arith}
-use Rattle.merge.proofs.Ticks.{judging-first, judging-next, falling, judged}
+-- `merge::rises` meets its contract: each entry's tick is before that of the next.
 use borrow.Author.Rules.{rules}
+use lib.Dec.{ltb}
+use Rattle.std.proofs.Common.{tests}
+use Rattle.std.proofs.lemmas.List.Sorted.{answers_always}
+use Rattle.merge.specs.Merge.{tick_in}
+use Rattle.merge.proofs.Ticks.{rising-by-entries}
 use Rattle.merge.proofs.rises.Goals as goal
 
-pub loop-i-init : goal.loop-i-init
-loop-i-init c = search (rules, judging-first)
-
-pub returns-then-after-before : goal.returns-then-after-before
-returns-then-after-before c = search (rules, falling)
-
-pub loop-i-preserved : goal.loop-i-preserved
-loop-i-preserved c =
-    let after = c.tick_in-after.ensures in
-    let before = c.tick_in-before.ensures in
-    judging-next (search rules) before after (omega arith) c.if-after-before.false
-
 pub returns : goal.returns
-returns c = search (rules, judged)
+returns c =
+    rising-by-entries _ _
+    (c.is_sorted_by.ensures.cases (λ x y. ltb (tick_in x) (tick_in y)) (answers_always _ _ _ (λ f a r f' q. search (rules, tests))))

@@ -1,11 +1,6 @@
--- `import::line::value` meets its contract. The loop's invariant: the digits from the ith on are left.
-use Prim.Native.Nat.{◌-◌}
-use lib.ListN.{length}
+-- `import::line::value`: the digits from the next on are left.
 use Rattle.import.proofs.Counting.{Counting}
 use Rattle.import.proofs.line.value.Given as goal
 
-abbrev pub invariant-loop-i : goal.invariant-loop-i
-invariant-loop-i l = Counting l.base l.digits l.n l.i
-
-abbrev pub decreases-loop-i : goal.decreases-loop-i
-decreases-loop-i l = length l.digits - l.i
+abbrev pub invariant-loop-digit : goal.invariant-loop-digit
+invariant-loop-digit l = Counting l.base l.digits l.n l.digit-index

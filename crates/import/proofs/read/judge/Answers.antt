@@ -1,21 +1,12 @@
--- `import::read::judge` meets its contract. The loop's invariant: the lines from a place on are left.
-use native.Mathlib.Omega.{arith}
-use Rattle.import.proofs.Lines.{ends-within}
+-- `import::read::judge` meets its contract: every line is judged.
 use Rattle.import.proofs.Whole.{judging-first, judging-next, judging-done}
-use borrow.Author.Rules.{rules}
 use Rattle.import.proofs.read.judge.Goals as goal
 
-pub loop-at-init : goal.loop-at-init
-loop-at-init c = search (rules, judging-first)
+pub loop-line-init : goal.loop-line-init
+loop-line-init c = rw c.into_iter-line-iterator.ensures.into_iter_gives (judging-first c.args.text.now c.begin-progress.ensures)
 
-pub slice_bounds-judged-end : goal.slice_bounds-judged-end
-slice_bounds-judged-end c = let short = ends-within _ (search rules) c.line_end-end.ensures in omega arith
-
-pub overflow_add-at : goal.overflow_add-at
-overflow_add-at c = let short = ends-within _ (search rules) c.line_end-end.ensures in omega arith
-
-pub loop-at-preserved : goal.loop-at-preserved
-loop-at-preserved c = search (rules, judging-next)
+pub loop-line-preserved : goal.loop-line-preserved
+loop-line-preserved c = judging-next c.loop-line.invariant c.in-Some.ensures.steps c.judged-progress.ensures
 
 pub returns : goal.returns
-returns c = search (rules, judging-done)
+returns c = judging-done c.loop-line.invariant c.in-None.ensures.steps.0

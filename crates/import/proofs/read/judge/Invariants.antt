@@ -1,11 +1,7 @@
--- `import::read::judge` meets its contract. The loop's invariant: the lines from a place on are left.
-use Prim.Native.Nat.{◌-◌}
-use lib.ListN.{length}
+-- `import::read::judge`: the lines that the iterator has left are judged next.
+use Rattle.import.specs.Read.{lines}
 use Rattle.import.proofs.Whole.{Judging}
 use Rattle.import.proofs.read.judge.Given as goal
 
-abbrev pub invariant-loop-at : goal.invariant-loop-at
-invariant-loop-at l = Judging l.text l.progress l.at
-
-abbrev pub decreases-loop-at : goal.decreases-loop-at
-decreases-loop-at l = length l.text - l.at
+abbrev pub invariant-loop-line : goal.invariant-loop-line
+invariant-loop-line l = Judging l.text l.progress (lines l.line-iterator.rest.now)

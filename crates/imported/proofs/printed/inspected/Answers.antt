@@ -1,10 +1,10 @@
 -- `imported::printed::inspected` meets its contract.
-use Rattle.imported.proofs.Printing.{inspected-done, inspected-never}
 use borrow.Author.Rules.{rules}
+use Rattle.imported.proofs.Printing.{inspected-done, inspected-never}
 use Rattle.imported.proofs.printed.inspected.Goals as goal
 
-pub returns-in-Done : goal.returns-in-Done
-returns-in-Done c = search (rules, inspected-done)
+pub returns-in-Ok : goal.returns-in-Ok
+returns-in-Ok c = inspected-done _ _ c.requires _ c.in-Ok.ensures.value (search rules) c.in-Ok.ensures.out_after
 
-pub returns-in-Refused : goal.returns-in-Refused
-returns-in-Refused c = search (rules, inspected-never)
+pub returns-in-Err : goal.returns-in-Err
+returns-in-Err c = inspected-never _ _ c.requires _ c.in-Err.ensures.value

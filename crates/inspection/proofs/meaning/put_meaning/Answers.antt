@@ -3,11 +3,11 @@ use Rattle.inspection.proofs.Meanings.{meaning-unknown, meaning-range, meaning-d
 use borrow.Author.Rules.{rules}
 use Rattle.inspection.proofs.meaning.put_meaning.Goals as goal
 
-pub returns-then-finding-eq23 : goal.returns-then-finding-eq23
-returns-then-finding-eq23 c = search (rules, meaning-unknown)
+pub returns-in-Ok : goal.returns-in-Ok
+returns-in-Ok c = search (rules, meaning-data)
 
-pub returns-then-finding-eq24 : goal.returns-then-finding-eq24
-returns-then-finding-eq24 c = search (rules, meaning-range)
+pub returns-in-Err-Unknown : goal.returns-in-Err-Unknown
+returns-in-Err-Unknown c = search (rules, meaning-unknown)
 
-pub returns : goal.returns
-returns c = search (rules, meaning-data)
+pub returns-in-Err-OutOfRange : goal.returns-in-Err-OutOfRange
+returns-in-Err-OutOfRange c = search (rules, meaning-range)

@@ -9,11 +9,11 @@ loop-i-init c = search (rules, wording-first)
 pub overflow_add-i : goal.overflow_add-i
 overflow_add-i c = search (rules, wording-line)
 
-pub offset_bounds-ticks-i : goal.offset_bounds-ticks-i
-offset_bounds-ticks-i c = search (rules, wording-ticks)
+pub offset_bounds-list-i : goal.offset_bounds-list-i
+offset_bounds-list-i c = search (rules, wording-ticks)
 
-pub bounds-ticks-i : goal.bounds-ticks-i
-bounds-ticks-i c = search (rules, wording-ticks)
+pub bounds-list-i : goal.bounds-list-i
+bounds-list-i c = search (rules, wording-ticks)
 
 pub loop-i-preserved : goal.loop-i-preserved
 loop-i-preserved c = search (rules, wording-next)

@@ -1,11 +1,11 @@
--- `merge::turns::write` meets its contract. The loop's invariant: what is left of the merged part is to be written from place i + j on.
+-- `merge::turns::write`: the first places have the entries that are merged, and there is room for the others.
 use Prim.Native.Nat.{◌+◌, ◌-◌}
 use lib.ListN.{length}
 use Rattle.merge.proofs.Writing.{Writing}
 use Rattle.merge.proofs.turns.write.Given as goal
 
-abbrev pub invariant-loop-entry : goal.invariant-loop-entry
-invariant-loop-entry l = Writing l.initial.merged l.ccd l.infrared l.merged l.i l.j
+abbrev pub invariant-loop-given : goal.invariant-loop-given
+invariant-loop-given l = Writing l.initial.merged l.ccd l.infrared l.merged l.parts
 
-abbrev pub decreases-loop-entry : goal.decreases-loop-entry
-decreases-loop-entry l = length l.ccd - l.i + (length l.infrared - l.j)
+abbrev pub decreases-loop-given : goal.decreases-loop-given
+decreases-loop-given l = length l.ccd - l.parts.ccd + (length l.infrared - l.parts.infrared)

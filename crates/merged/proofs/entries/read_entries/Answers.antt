@@ -1,6 +1,6 @@
 -- `merged::entries::read_entries` meets its contract.
-use Rattle.merged.proofs.Packing.{read_answer, read-entries}
 use borrow.Author.Rules.{rules}
+use Rattle.merged.proofs.Packing.{read_answer, read-entries}
 use Rattle.merged.proofs.entries.read_entries.Goals as goal
 
 pub returns : goal.returns

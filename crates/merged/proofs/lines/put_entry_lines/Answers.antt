@@ -1,16 +1,16 @@
--- `merged::lines::put_entry_lines` meets its contract. The loop's invariant: the lines from the ith on are left.
-use Rattle.merged.proofs.LineByLine.{lines-left-first, lines-left-next, lines-written}
+-- `merged::lines::put_entry_lines` meets its contract.
+use native.Mathlib.Omega.{arith}
 use borrow.Author.Rules.{rules}
+use Rattle.layout.proofs.Adding.{partly-first}
+use Rattle.merged.proofs.LineByLine.{lines-left-next, lines-added}
 use Rattle.merged.proofs.lines.put_entry_lines.Goals as goal
 
-pub loop-i-init : goal.loop-i-init
-loop-i-init c = search (rules, lines-left-first)
+pub loop-entry-init : goal.loop-entry-init
+loop-entry-init c = search (rules, partly-first)
 
-pub loop-i-preserved : goal.loop-i-preserved
-loop-i-preserved c = search (rules, lines-left-next)
-
-pub shape_of-out : goal.shape_of-out
-shape_of-out c = c.loop-i.invariant.part.long
+pub loop-entry-preserved : goal.loop-entry-preserved
+loop-entry-preserved c =
+    lines-left-next c.args.entries.now c.loop-entry.entry-index c.loop-entry.invariant (omega arith) c.put_entry_line.ensures
 
 pub returns : goal.returns
-returns c = search (rules, lines-written)
+returns c = lines-added c.args.entries.now c.loop-entry.entry-index c.loop-entry.invariant (omega arith)

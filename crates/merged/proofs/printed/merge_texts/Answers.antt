@@ -1,36 +1,40 @@
 -- `merged::printed::merge_texts` meets its contract.
-use mathlib.Core.Path.{◌≡◌}
-use Rattle.merged.specs.Text.{merged_texts_of}
-use Rattle.merged.proofs.Answers.{texts-number, unread-kept, first-unread, second-unread, lists-mergeable, merged-answer, merged-after, count-few, count_long}
-use borrow.Author.Rules.{rules}
+use Rattle.merged.proofs.Answers.{texts-number, first-unread, second-unread, count-few, count_long, lists-mergeable, merged-answer, merged-after}
 use Rattle.merged.proofs.printed.merge_texts.Goals as goal
 
-pub returns-then-number-ne0 : goal.returns-then-number-ne0
-returns-then-number-ne0 c =
-    let value : c.unread.result ≡ merged_texts_of c.args.ccd.now c.args.infrared.now = search (rules, first-unread) in
-    record { value = value; result_value = texts-number _ _ value; out_after = search (rules, unread-kept) }
+pub returns-in-Err-clause-result_value : goal.returns-in-Err-clause-result_value
+returns-in-Err-clause-result_value c = texts-number _ _ (first-unread _ _ c.in-Err.ensures.value)
 
-pub returns-then-number-ne0-2 : goal.returns-then-number-ne0-2
-returns-then-number-ne0-2 c =
-    let value : c.unread-then-number-ne0-2.result ≡ merged_texts_of c.args.ccd.now c.args.infrared.now = search (rules, second-unread) in
-    record { value = value; result_value = texts-number _ _ value; out_after = search (rules, unread-kept) }
+pub returns-in-Err-read_entries-clause-result_value : goal.returns-in-Err-read_entries-clause-result_value
+returns-in-Err-read_entries-clause-result_value c =
+    texts-number _ _ (second-unread _ _ c.in-Ok.ensures.value c.in-Err-read_entries.ensures.value)
 
 pub slice_bounds-ccd_list-end : goal.slice_bounds-ccd_list-end
-slice_bounds-ccd_list-end c = search (rules, count-few)
+slice_bounds-ccd_list-end c = count-few _ c.in-Ok.ensures.value _ c.in-Ok.ensures.list_after
 
 pub slice_bounds-put_lists-end : goal.slice_bounds-put_lists-end
-slice_bounds-put_lists-end c = search (rules, count_long)
+slice_bounds-put_lists-end c = count_long _ c.in-Ok.ensures.value _ c.in-Ok.ensures.list_after
 
 pub slice_bounds-infrared_list-end : goal.slice_bounds-infrared_list-end
-slice_bounds-infrared_list-end c = search (rules, count-few)
+slice_bounds-infrared_list-end c = count-few _ c.in-Ok-read_entries.ensures.value _ c.in-Ok-read_entries.ensures.list_after
 
 pub slice_bounds-put_lists-end-2 : goal.slice_bounds-put_lists-end-2
-slice_bounds-put_lists-end-2 c = search (rules, count_long)
+slice_bounds-put_lists-end-2 c = count_long _ c.in-Ok-read_entries.ensures.value _ c.in-Ok-read_entries.ensures.list_after
 
 pub put_lists-requires : goal.put_lists-requires
-put_lists-requires c = search (rules, lists-mergeable)
+put_lists-requires c =
+    let first = c.in-Ok.ensures in
+    let second = c.in-Ok-read_entries.ensures in
+    lists-mergeable _ _ first.value _ first.list_after second.value _ second.list_after
 
-pub returns : goal.returns
-returns c =
-    let value : c.put_lists.result ≡ merged_texts_of c.args.ccd.now c.args.infrared.now = search (rules, merged-answer) in
-    record { value = value; result_value = texts-number _ _ value; out_after = search (rules, merged-after) }
+pub returns-clause-result_value : goal.returns-clause-result_value
+returns-clause-result_value c =
+    let first = c.in-Ok.ensures in
+    let second = c.in-Ok-read_entries.ensures in
+    texts-number _ _ (merged-answer _ _ first.value _ first.list_after second.value _ second.list_after c.put_lists.ensures.value)
+
+pub returns-clause-out_after : goal.returns-clause-out_after
+returns-clause-out_after c =
+    let first = c.in-Ok.ensures in
+    let second = c.in-Ok-read_entries.ensures in
+    merged-after _ _ first.value _ first.list_after second.value _ second.list_after _ _ c.put_lists.ensures.out_after

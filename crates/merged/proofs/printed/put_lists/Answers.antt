@@ -1,13 +1,18 @@
 -- `merged::printed::put_lists` meets its contract.
-use Rattle.merged.proofs.Merges.{lists-apart, lists-share, lists-done, lists-after, share-kept}
 use borrow.Author.Rules.{rules}
+use Rattle.merged.proofs.Merges.{lists-apart, lists-refused, lists-done, lists-after}
 use Rattle.merged.proofs.printed.put_lists.Goals as goal
 
-pub returns-then-number-ne0 : goal.returns-then-number-ne0
-returns-then-number-ne0 c = search (rules, lists-share, share-kept)
+pub put_merge-requires-clause-fact_2 : goal.put_merge-requires-clause-fact_2
+put_merge-requires-clause-fact_2 c = lists-apart _ _ c.requires c.in-Ok.ensures.value
 
-pub put_merge-requires : goal.put_merge-requires
-put_merge-requires c = search (rules, lists-apart)
+pub returns-in-Ok-clause-value : goal.returns-in-Ok-clause-value
+returns-in-Ok-clause-value c =
+    let apart = lists-apart _ _ c.requires c.in-Ok.ensures.value in
+    search (rules, lists-done)
 
-pub returns : goal.returns
-returns c = search (rules, lists-done, lists-after)
+pub returns-in-Ok-clause-out_after : goal.returns-in-Ok-clause-out_after
+returns-in-Ok-clause-out_after c = search (rules, lists-after)
+
+pub returns-in-Err-clause-value : goal.returns-in-Err-clause-value
+returns-in-Err-clause-value c = lists-refused _ _ c.requires c.in-Err.ensures.value

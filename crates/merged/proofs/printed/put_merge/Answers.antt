@@ -6,8 +6,8 @@ use Rattle.merged.proofs.printed.put_merge.Goals as goal
 pub overflow_sub-count : goal.overflow_sub-count
 overflow_sub-count c = search (rules, rest-few)
 
-pub slice_bounds-put_parts-end : goal.slice_bounds-put_parts-end
-slice_bounds-put_parts-end c = search (rules, part_count)
+pub slice_bounds-write_parts-end : goal.slice_bounds-write_parts-end
+slice_bounds-write_parts-end c = search (rules, part_count)
 
 pub returns : goal.returns
 returns c = search (rules, merge-written)
