@@ -1,40 +1,33 @@
 -- The ways through a picture, and its length.
 -- Assumes nothing.
 use mathlib.Core.Path.{◌≡◌, refl, sym, ap, ◌∙◌}
+use mathlib.Core.Bool.{cond}
+use lib.Dec.{eqb}
 use mathlib.Core.List.{List, [], ◌∷◌, ◌++◌}
 use Prim.Native.Nat.{ℕ, ◌*◌, ◌<◌, ◌≤◌, ◌^◌}
 use native.Mathlib.Omega.{arith}
-use borrow.Author.Tests.{eq-eqb, ne_eqb}
 use lib.ListN.{length, length-append}
+use Rattle.std.specs.Prelude.{Result, Ok, Err}
+use Rattle.std.specs.Result.{result_unwrap_or}
 use Rattle.layout.specs.Numbers.{ascii, decimal_of}
 use Rattle.layout.specs.Template.{layout}
 use Rattle.layout.specs.Written.{Written, Front}
 use Rattle.layout.proofs.Below.{texts-long}
 use Rattle.layout.proofs.Decimals.{decimal-few}
 use Rattle.layout.proofs.Widths.{layout-few}
-use Rattle.layout.proofs.Writing.{written_then, written-three, written-front}
+use Rattle.layout.proofs.Writing.{written-front}
 use Rattle.pixels.specs.Map.{rows}
-use Rattle.pixels.specs.Measured.{lighted_of, readout_of, measured_number, measured_value, map_number}
-use Rattle.pixels.specs.declared.Measured.{Measured}
+use Rattle.pixels.specs.Measured.{lighted_of, readout_of, error_number, measured_number, measured_value, map_number}
+use Rattle.pixels.specs.declared.MapError.{MapError}
+use Rattle.pixels.specs.declared.MapError.TheVariants.{Length, SpareBit}
 use Rattle.pixels.proofs.Maps.{lighted-small, readout-small}
 use Rattle.picture.specs.Raster.{byte_text, row_bytes, row_text, raster_text}
 use Rattle.picture.specs.Picture.{header_text, picture_text}
 use Rattle.picture.specs.Printed.{refusal_template, reason_index, refusal_text, printed_for}
 
-pub written-refusal : (number : ℕ) {i : ℕ} → i ≡ reason_index number → {l : List ℕ} {at p : ℕ} {m : List ℕ}
-    → Written l at (layout refusal_template (number ∷ i ∷ []) []) p m → Written l at (refusal_text number) p m
-unfolding refusal_text
-written-refusal number is w = rw is at w
-
 pub refusal-few : (number : ℕ) → length (refusal_text number) ≤ 256
 unfolding refusal_text refusal_template ascii
 refusal-few number = omega (arith, layout-few refusal_template (number ∷ reason_index number ∷ []) [])
-
-pub written-header : (lit time : ℕ) {l : List ℕ} {at p : ℕ} {m : List ℕ} {q : ℕ} {n : List ℕ} {r : ℕ} {o : List ℕ}
-    → Written l at (ascii "P4\n# lighted " ++ decimal_of lit) p m → Written m p (ascii " of 118260 pixels, readout " ++ decimal_of time) q n
-    → Written n q (ascii " us\n438 270\n") r o → Written l at (header_text lit time) r o
-unfolding header_text
-written-header lit time first second third = written-three first second third
 
 -- a picture has room in 16,384 bytes
 raster-long : (map : List ℕ) → length (raster_text map) ≡ rows * row_bytes
@@ -67,28 +60,41 @@ picture-fits map =
     omega (arith, length-append (header_text lit time) (raster_text map), header-few lit time small small', raster-long map)
 
 -- the picture of a map, piece by piece
-module _ (map : List ℕ) (a : Measured) (counted : a ≡ lighted_of map) {lit : ℕ} (is : lit ≡ measured_value a)
-    (b : Measured) (timed : b ≡ readout_of map) {time : ℕ} (is' : time ≡ measured_value b) where
+value-or-0 : (r : Result ℕ MapError) → result_unwrap_or r 0 ≡ measured_value r
+value-or-0 (Ok n) = refl
+value-or-0 (Err e) = refl
+
+module _ (map : List ℕ) (a : Result ℕ MapError) (counted : a ≡ lighted_of map) {lit : ℕ} (or-0 : lit ≡ result_unwrap_or a 0)
+    (b : Result ℕ MapError) (timed : b ≡ readout_of map) {time : ℕ} (or-0' : time ≡ result_unwrap_or b 0) where
+  is : lit ≡ measured_value a
+  is = or-0 ∙ value-or-0 a
+
+  is' : time ≡ measured_value b
+  is' = or-0' ∙ value-or-0 b
+
   fits : length (header_text lit time ++ raster_text map) ≤ 16384
   unfolding picture_text
   fits = rw (is, counted, is', timed) (picture-fits map)
 
-  pub picture-front : (old : List ℕ) → length old ≡ 16384 → {p : ℕ} {m : List ℕ} → Written old 0 (header_text lit time) p m
-      → {q : ℕ} {new : List ℕ} → Written m p (raster_text map) q new → Front old (picture_text map) q new
+  pub picture-front : (old : List ℕ) → length old ≡ 16384 → {q : ℕ} {new : List ℕ}
+      → Written old 0 (header_text lit time ++ raster_text map) q new → Front old (picture_text map) q new
   unfolding picture_text
-  picture-front old room header raster =
+  picture-front old room w =
       rw (ap measured_value (sym counted), ap measured_value (sym timed), ← is, ← is')
-      (written-front (written_then header raster) (omega (arith, fits)))
+      (written-front w (omega (arith, fits)))
 
--- what is printed: n is the number of the map
-module _ (map : List ℕ) (a : Measured) (counted : measured_number a ≡ map_number map) {n : ℕ} (is : n ≡ measured_number a)
-    {old : List ℕ} {k : ℕ} {new : List ℕ} where
-  pub printed-picture : n ≡ 0 → Front old (picture_text map) k new → Front old (printed_for map) k new
+-- what is printed, by the number of the map
+module _ (map : List ℕ) (a : Result ℕ MapError) (counted : measured_number a ≡ map_number map) {old : List ℕ} {k : ℕ} {new : List ℕ} where
+  pub printed-picture : {n : ℕ} → a ≡ Ok n → Front old (picture_text map) k new → Front old (printed_for map) k new
   unfolding printed_for
-  printed-picture e f = rw (eq-eqb (map_number map) 0 (sym counted ∙ sym is ∙ e)) f
+  printed-picture is f = rw (← counted, is) f
 
-  pub printed-refusal : (n ≡ 0 → ⊥) → length old ≡ 16384 → Written old 0 (refusal_text n) k new → Front old (printed_for map) k new
+  pub printed-refusal : {e : MapError} → a ≡ Err e → length old ≡ 16384 → Written old 0 (refusal_text (error_number e)) k new
+      → Front old (printed_for map) k new
   unfolding printed_for
-  printed-refusal ne room w =
-      let same : map_number map ≡ n = sym counted ∙ sym is in
-      rw (same, ne_eqb n 0 ne) (written-front w (omega (arith, refusal-few n)))
+  printed-refusal {e} is room w = rw (← counted, is) (refused e w)
+    where
+      refused : (e : MapError) → Written old 0 (refusal_text (error_number e)) k new
+          → Front old (cond (eqb (error_number e) 0) (picture_text map) (refusal_text (error_number e))) k new
+      refused Length w = written-front w (omega (arith, refusal-few 41, room))
+      refused SpareBit w = written-front w (omega (arith, refusal-few 42, room))

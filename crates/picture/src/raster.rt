@@ -1,12 +1,12 @@
 // The raster of a raw portable bitmap: the rows of a map, each filled up to whole bytes.
 ghost use Rattle.std.specs.Prelude.{◌≡◌, ◌*◌, ◌≤◌, ◌<◌};
 ghost use Rattle.layout.specs.Numbers.{bit};
-ghost use Rattle.layout.specs.Written.{Written};
+ghost use Rattle.layout.specs.Adds.{Adds};
 ghost use Rattle.pixels.specs.Map.{rows};
 ghost use Rattle.picture.specs.Raster.{is_shown, eight_from, row_bytes, row_text, raster_text};
 
-use layout::bytes::{put_byte, within};
 use layout::template::byte_at;
+use layout::writer::Writer;
 use pixels::{COLUMNS, ROWS};
 
 const ROW_BYTES: usize = 55;
@@ -27,40 +27,30 @@ fn dot(map: &[u8], row: usize, column: usize) -> u8
 
 // Eight pixels of a row, from a column on.
 fn eight_from(map: &[u8], row: usize, column: usize) -> u8
-    requires fact_1 { row < rows }
-    requires fact_2 { column ≤ 8 * row_bytes }
+    requires row { row < rows }
+    requires column { column ≤ 8 * row_bytes }
     ensures { result ≡ eight_from map.now row column }
 {
     let mut byte: u8 = 0;
-    let mut j: usize = 0;
-    while j < 8 {
+    for j in 0..8 {
         byte = 2 * byte + dot(map, row, column + j);
-        j = j + 1;
     }
     byte
 }
 
-fn put_row(out: &mut [u8], at: usize, map: &[u8], row: usize) -> usize
+fn put_row(writer: &mut Writer<'_>, map: &[u8], row: usize)
     requires { row < rows }
-    ensures { Written out.old at (row_text map.now row) result out.new }
+    ensures { Adds writer.old writer.new (row_text map.now row) }
 {
-    let mut place = within(at, out.len());
-    let mut k: usize = 0;
-    while k < ROW_BYTES {
-        place = put_byte(out, place, eight_from(map, row, 8 * k));
-        k = k + 1;
+    for k in 0..ROW_BYTES {
+        writer.put_byte(eight_from(map, row, 8 * k));
     }
-    place
 }
 
-pub fn put_raster(out: &mut [u8], at: usize, map: &[u8]) -> usize
-    ensures { Written out.old at (raster_text map.now) result out.new }
+pub fn put_raster(writer: &mut Writer<'_>, map: &[u8])
+    ensures { Adds writer.old writer.new (raster_text map.now) }
 {
-    let mut place = within(at, out.len());
-    let mut row: usize = 0;
-    while row < ROWS {
-        place = put_row(out, place, map, row);
-        row = row + 1;
+    for row in 0..ROWS {
+        put_row(writer, map, row);
     }
-    place
 }

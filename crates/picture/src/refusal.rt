@@ -1,9 +1,9 @@
 // Request P5's refusals in words.
 ghost use Rattle.std.specs.Prelude.{◌≡◌};
-ghost use Rattle.layout.specs.Written.{Written};
+ghost use Rattle.layout.specs.Adds.{Adds};
 ghost use Rattle.picture.specs.Printed.{reason_index, refusal_text};
 
-use layout::template::put_template;
+use layout::writer::Writer;
 
 // The first of the numbers.
 const MAP_LENGTH: u8 = 41;
@@ -12,24 +12,19 @@ const MAP_LENGTH: u8 = 41;
 fn reason_index(number: u8) -> u64
     ensures { result ≡ reason_index number }
 {
-    if number < MAP_LENGTH {
-        return 0;
-    }
-    (number - MAP_LENGTH) as u64
+    u64::from(number.saturating_sub(MAP_LENGTH))
 }
 
-pub fn put_refusal(out: &mut [u8], at: usize, number: u8) -> usize
-    ensures { Written out.old at (refusal_text number) result out.new }
+pub fn put_refusal(writer: &mut Writer<'_>, number: u8)
+    ensures { Adds writer.old writer.new (refusal_text number) }
 {
-    let values = [number as u64, reason_index(number)];
-    put_template(
-        out,
-        at,
+    let values = [u64::from(number), reason_index(number)];
+    writer.put_template(
         b"refused @@@: {a pixel map has 14,783 bytes\
         |a spare bit after the last pixel is set\
         |no such request\
         |the request's value is out of range}\n",
         &values,
         &[],
-    )
+    );
 }

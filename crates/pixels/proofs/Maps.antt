@@ -3,40 +3,44 @@
 use mathlib.Core.Path.{◌≡◌, refl, sym, ap, ◌∙◌}
 use mathlib.Core.Bool.{Bool, true, false, cond, not}
 use mathlib.Core.List.{List}
-use mir.Syntax.{w8, w32}
+use mir.Syntax.{w8}
 use mir.Val.{Fits}
-use Prim.Native.Nat.{ℕ, ◌+◌, ◌-◌, ◌*◌, ◌%◌, ◌^◌, ◌<◌, ◌≤◌}
+use Prim.Native.Nat.{ℕ, zero, suc, ◌+◌, ◌-◌, ◌*◌, ◌%◌, ◌^◌, ◌<◌, ◌≤◌}
 use native.Mathlib.Nat.{add-zero}
 use native.Mathlib.Omega.{arith}
 use borrow.Author.Tests.{eq-eqb, ne_eqb}
-use lib.Count.{ones, ones-le}
+use lib.Count.{ones}
 use lib.Dec.{eqb, lit<}
 use lib.ListN.{length, get_or}
 use Rattle.pixels.specs.Map.{rows, columns, pixels, map_bytes, is_set, is_lit, how_many, lighted, spare_bits, spare_set}
 use Rattle.pixels.specs.Readout.{readout_time}
 use Rattle.pixels.specs.Measured.{measured, lighted_of, readout_of, measured_number, measured_value, map_number}
-use Rattle.pixels.specs.declared.Measured.{Measured}
-use Rattle.pixels.specs.declared.Measured.TheVariants.{Found, Length, SpareBit}
+use Rattle.std.specs.Prelude.{Result, Ok, Err}
+use Rattle.std.specs.Result.{result_map_both}
+use Rattle.std.specs.List.{sum_by}
+use Rattle.std.proofs.Common.{take, take_all, add-one}
+use Rattle.std.proofs.lemmas.List.Sums.{sum_by_more}
+use Rattle.pixels.specs.declared.MapError.{MapError}
+use Rattle.pixels.specs.declared.MapError.TheVariants.{Length, SpareBit}
 use Rattle.pixels.proofs.Counting.{many-parts, many-rows, many-le}
 use Rattle.pixels.proofs.Bytes.{bit_at, byte-bits, half-bits, half-none, half-some}
 
--- a turn of the loop counts a byte
-module _ (map : List ℕ) (i : ℕ) {count : ℕ} (e : count ≡ how_many (is_set map) (8 * i)) (byte : Fits w8 (get_or map i 0)) where
-  pub count-byte : count + ones (get_or map i 0) ≡ how_many (is_set map) (8 * (i + 1))
-  count-byte =
-      let next : 8 * (i + 1) ≡ 8 * i + 8 = omega arith in
-      rw (next, many-parts (is_set map) (8 * i) 8, byte-bits map i byte.fits, e)
-
-  pub count_fits : {bytes : ℕ} → i < bytes → bytes ≤ map_bytes → Fits w32 (count + ones (get_or map i 0))
-  count_fits more few = record { fits = omega (arith, many-le (is_set map) (8 * i), ones-le 8 (get_or map i 0) byte.fits) }
-
-pub count-done : (map : List ℕ) (i bytes : ℕ) {count : ℕ} → count ≡ how_many (is_set map) (8 * i) → i ≤ bytes → bytes ≤ i
-    → count ≡ how_many (is_set map) (8 * bytes)
-count-done map i bytes e few all = let same : i ≡ bytes = omega arith in rw same at e
-
-pub none-counted : (map : List ℕ) → 0 ≡ how_many (is_set map) (8 * 0)
+-- the bits of the first bytes, byte by byte
+bits-by-byte : (map : List ℕ) → ((i : ℕ) → get_or map i 0 < 256) → (n : ℕ) → n ≤ length map
+    → sum_by ones (take n map) ≡ how_many (is_set map) (8 * n)
 unfolding how_many
-none-counted map = refl
+bits-by-byte map small zero h = refl
+bits-by-byte map small (suc n) h =
+    let next : 8 * suc n ≡ 8 * n + 8 = omega arith in
+    rw (next, many-parts (is_set map) (8 * n) 8, byte-bits map n (small n), ← bits-by-byte map small n (omega arith))
+    (rw (← add-one n) (sum_by_more ones map n 0 h))
+
+pub bits-counted : (map : List ℕ) → ((i : ℕ) → Fits w8 (get_or map i 0)) → sum_by ones map ≡ how_many (is_set map) (8 * length map)
+bits-counted map small =
+    ap (sum_by ones) (sym (take_all (length map) map (omega arith))) ∙ bits-by-byte map (λ i. (small i).fits) (length map) (omega arith)
+
+pub ones-few : (map : List ℕ) → ((i : ℕ) → Fits w8 (get_or map i 0)) → length map ≤ map_bytes → sum_by ones map < 2 ^ 32
+ones-few map small few = rw (bits-counted map small) (omega (arith, many-le (is_set map) (8 * length map)))
 
 -- the bits after the last pixel are the lower half of the last byte
 abbrev spares : List ℕ → ℕ
@@ -73,31 +77,31 @@ pub lighted-few : (map : List ℕ) → lighted map ≤ pixels
 lighted-few map = rw (← lighted-bits map) (many-le (is_set map) pixels)
 
 -- the number of what is measured is the one that the map gives
-pub measured-number : (map : List ℕ) (n : ℕ) (r : Measured) → r ≡ measured map n → measured_number r ≡ map_number map
+measured-number : (map : List ℕ) (n : ℕ) → measured_number (measured map n) ≡ map_number map
 unfolding measured map_number
-measured-number map n r e = rw e (go (eqb (length map) map_bytes) (spare_set map))
+measured-number map n = go (eqb (length map) map_bytes) (spare_set map)
   where
-    go : (a b : Bool) → measured_number (cond a (cond b SpareBit (Found n)) Length) ≡ cond (not a) 41 (cond b 42 0)
+    go : (a b : Bool) → measured_number (cond a (cond b (Err SpareBit) (Ok n)) (Err Length)) ≡ cond (not a) 41 (cond b 42 0)
     go false b = refl
     go true true = refl
     go true false = refl
 
 module _ (map : List ℕ) where
-  pub lighted-number : (r : Measured) → r ≡ lighted_of map → measured_number r ≡ map_number map
+  pub lighted-number : (r : Result ℕ MapError) → r ≡ lighted_of map → measured_number r ≡ map_number map
   unfolding lighted_of
-  lighted-number r e = measured-number map (lighted map) r e
+  lighted-number r e = rw e (measured-number map (lighted map))
 
-  pub readout-number : (r : Measured) → r ≡ readout_of map → measured_number r ≡ map_number map
+  pub readout-number : (r : Result ℕ MapError) → r ≡ readout_of map → measured_number r ≡ map_number map
   unfolding readout_of
-  readout-number r e = measured-number map (readout_time (lighted map)) r e
+  readout-number r e = rw e (measured-number map (readout_time (lighted map)))
 
   -- the three ways through the count
-  pub lighted-length : (length map ≡ map_bytes → ⊥) → Length ≡ lighted_of map
+  pub lighted-length : (length map ≡ map_bytes → ⊥) → Err Length ≡ lighted_of map
   unfolding lighted_of measured
   lighted-length ne = rw (ne_eqb (length map) map_bytes ne)
 
   module _ (whole : length map ≡ map_bytes) where
-    pub lighted-spare : (get_or map (map_bytes - 1) 0 % 16 ≡ 0 → ⊥) → SpareBit ≡ lighted_of map
+    pub lighted-spare : (get_or map (map_bytes - 1) 0 % 16 ≡ 0 → ⊥) → Err SpareBit ≡ lighted_of map
     unfolding lighted_of measured spare_set
     lighted-spare ne =
         rw (
@@ -105,58 +109,38 @@ module _ (map : List ℕ) where
           ne_eqb (spares map) 0 (spare-some map ne),
         )
 
-    pub lighted-found : get_or map (map_bytes - 1) 0 % 16 ≡ 0 → {n : ℕ} → n ≡ how_many (is_set map) (8 * map_bytes) → Found n ≡ lighted_of map
+    pub lighted-found : get_or map (map_bytes - 1) 0 % 16 ≡ 0 → {n : ℕ} → n ≡ how_many (is_set map) (8 * length map) → Ok n ≡ lighted_of map
     unfolding lighted_of measured spare_set
     lighted-found e count =
         let none = spare-none map e in
-        rw (eq-eqb (length map) map_bytes whole, none, count, lighted-all map none)
+        rw (eq-eqb (length map) map_bytes whole, none, count, whole, lighted-all map none)
 
-  -- and through the readout, by the count
-  module _ {a : Measured} (answer : a ≡ lighted_of map) where
-    -- a count is of a map that is not refused
-    counted : {n : ℕ} → a ≡ Found n → (n ≡ lighted map) × (measured map (readout_time n) ≡ Found (readout_time n))
-    unfolding lighted_of measured
-    counted {n} found = go (eqb (length map) map_bytes) (spare_set map) (sym found ∙ answer)
-      where
-        go : (x y : Bool) → Found n ≡ cond x (cond y SpareBit (Found (lighted map))) Length
-            → (n ≡ lighted map) × (cond x (cond y SpareBit (Found (readout_time n))) Length ≡ Found (readout_time n))
-        go false y e = absurd (let z : ◌≡◌ {A = ℕ} 0 1 = cc in omega arith)
-        go true true e = absurd (let z : ◌≡◌ {A = ℕ} 0 1 = cc in omega arith)
-        go true false e = (let same : n ≡ lighted map = cc in same, refl)
+  -- and through the readout: the time of what is counted
+  pub readout-by : readout_of map ≡ result_map_both readout_time (λ (e : MapError). e) (lighted_of map)
+  unfolding readout_of lighted_of measured
+  readout-by = go (eqb (length map) map_bytes) (spare_set map)
+    where
+      go : (x y : Bool) → cond x (cond y (Err SpareBit) (Ok (readout_time (lighted map)))) (Err Length)
+          ≡ result_map_both readout_time (λ (e : MapError). e) (cond x (cond y (Err SpareBit) (Ok (lighted map))) (Err Length))
+      go false y = refl
+      go true true = refl
+      go true false = refl
 
-    pub counted-few : {n : ℕ} → a ≡ Found n → n ≤ pixels
-    counted-few found = omega (arith, (counted found).0, lighted-few map)
-
-    pub readout-found : {n t : ℕ} → a ≡ Found n → t ≡ readout_time n → Found t ≡ readout_of map
-    unfolding readout_of
-    readout-found found time = ap Found time ∙ sym (counted found).1 ∙ ap (λ (m : ℕ). measured map (readout_time m)) (counted found).0
-
-    pub readout-length : a ≡ Length → Length ≡ readout_of map
-    unfolding readout_of lighted_of measured
-    readout-length is = go (eqb (length map) map_bytes) (spare_set map) (sym is ∙ answer)
-      where
-        go : (x y : Bool) → Length ≡ cond x (cond y SpareBit (Found (lighted map))) Length
-            → Length ≡ cond x (cond y SpareBit (Found (readout_time (lighted map)))) Length
-        go false y e = refl
-        go true true e = e
-        go true false e = absurd (let z : ◌≡◌ {A = ℕ} 0 1 = cc in omega arith)
-
-    pub readout-spare : a ≡ SpareBit → SpareBit ≡ readout_of map
-    unfolding readout_of lighted_of measured
-    readout-spare is = go (eqb (length map) map_bytes) (spare_set map) (sym is ∙ answer)
-      where
-        go : (x y : Bool) → SpareBit ≡ cond x (cond y SpareBit (Found (lighted map))) Length
-            → SpareBit ≡ cond x (cond y SpareBit (Found (readout_time (lighted map)))) Length
-        go false y e = e
-        go true true e = refl
-        go true false e = absurd (let z : ◌≡◌ {A = ℕ} 0 1 = cc in omega arith)
+  pub counted-few : {n : ℕ} → lighted_of map ≡ Ok n → n ≤ pixels
+  unfolding lighted_of measured
+  counted-few {n} found = go (eqb (length map) map_bytes) (spare_set map) found
+    where
+      go : (x y : Bool) → cond x (cond y (Err SpareBit) (Ok (lighted map))) (Err Length) ≡ Ok n → n ≤ pixels
+      go false y e = absurd cc
+      go true true e = absurd cc
+      go true false e = let same : n ≡ lighted map = cc in omega (arith, lighted-few map)
 
 -- what is measured fits in 24 bits
 measured-small : (map : List ℕ) (n : ℕ) → n < 2 ^ 24 → measured_value (measured map n) < 2 ^ 24
 unfolding measured
 measured-small map n h = go (eqb (length map) map_bytes) (spare_set map)
   where
-    go : (x y : Bool) → measured_value (cond x (cond y SpareBit (Found n)) Length) < 2 ^ 24
+    go : (x y : Bool) → measured_value (cond x (cond y (Err SpareBit) (Ok n)) (Err Length)) < 2 ^ 24
     go false y = omega arith
     go true true = omega arith
     go true false = h

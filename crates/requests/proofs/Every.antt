@@ -8,6 +8,7 @@ use native.Mathlib.Decide.{ℕ_discrete}
 use lib.Arith.{lt_of_le-ne}
 use lib.Dec.{T}
 use Rattle.words.proofs.Tables.{left, right}
+use Rattle.std.proofs.lemmas.Bool.{}
 use Rattle.words.proofs.Tests.{holds}
 
 abbrev pub every : (ℕ → Bool) → ℕ → Bool

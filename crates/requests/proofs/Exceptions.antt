@@ -7,9 +7,11 @@ use Prim.Native.Nat.{ℕ, ◌+◌, ◌*◌, ◌<◌, ◌≤◌, min, max}
 use native.Mathlib.Omega.{arith}
 use borrow.Author.Tests.{eqb-true, leb-true, ltb-true, eq-eqb, le-leb}
 use lib.Dec.{T, eqb, leb, ltb}
-use Rattle.words.proofs.Tests.{and_left, and_right, passes}
+use Rattle.std.proofs.lemmas.Bool.{and_parts}
+use Rattle.words.proofs.Tests.{passes}
 use Rattle.requests.specs.Parameters.{composed, mode_fields, lamp_fields, cover_fields}
-use Rattle.requests.specs.Requests.{Row, rows, requests, row_of, allows}
+use Rattle.requests.specs.declared.table.Row.{Row}
+use Rattle.requests.specs.Requests.{rows, requests, row_of, allows}
 use Rattle.requests.specs.Codec.{word_of}
 use Rattle.requests.specs.Shared.{Exception, exceptions, rises_from, listed_for, is_listed, share_word}
 use Rattle.requests.proofs.Every.{every, every-at}
@@ -28,7 +30,7 @@ both_ways false false f g = refl
 allowed-within : (r : Row) (v : ℕ) → allows r v ≡ true → (r.least ≤ v) × (v ≤ r.most)
 unfolding allows
 allowed-within r v e =
-    (leb-true r.least v (and_left (leb r.least v) (leb v r.most) e), leb-true v r.most (and_right (leb r.least v) (leb v r.most) e))
+    (leb-true r.least v (and_parts (leb r.least v) (leb v r.most) e).0, leb-true v r.most (and_parts (leb r.least v) (leb v r.most) e).1)
 
 listed : ℕ → ℕ → Exception
 listed k j = listed_for exceptions k j
@@ -61,8 +63,8 @@ module _ (k j : ℕ) (order : k < j) (known : j < requests) where
   unfolding matches
   met m =
       let both = rw m at match-at in (
-        eqb-true (listed k j).least (lowest k j) (and_left (eqb (listed k j).least (lowest k j)) (eqb (listed k j).most (highest k j)) both),
-        eqb-true (listed k j).most (highest k j) (and_right (eqb (listed k j).least (lowest k j)) (eqb (listed k j).most (highest k j)) both),
+        eqb-true (listed k j).least (lowest k j) (and_parts (eqb (listed k j).least (lowest k j)) (eqb (listed k j).most (highest k j)) both).0,
+        eqb-true (listed k j).most (highest k j) (and_parts (eqb (listed k j).least (lowest k j)) (eqb (listed k j).most (highest k j)) both).1,
       )
 
   apart : meet k j ≡ false → (listed k j).most < (listed k j).least
@@ -72,7 +74,7 @@ module _ (k j : ℕ) (order : k < j) (known : j < requests) where
   -- where the rows meet, their codes are one
   met-code : meet k j ≡ true → (row_of k).code ≡ (row_of j).code
   unfolding meet
-  met-code m = eqb-true (row_of k).code (row_of j).code (and_left (eqb (row_of k).code (row_of j).code) (leb (lowest k j) (highest k j)) m)
+  met-code m = eqb-true (row_of k).code (row_of j).code (and_parts (eqb (row_of k).code (row_of j).code) (leb (lowest k j) (highest k j)) m).0
 
   -- a listed value is one that both rows allow, and gives one word
   pub listed-share : (v : ℕ) → is_listed k j v ≡ true → share_word k v j v ≡ true
@@ -80,10 +82,10 @@ module _ (k j : ℕ) (order : k < j) (known : j < requests) where
   listed-share v is = go (meet k j) refl
     where
       low : (listed k j).least ≤ v
-      low = leb-true (listed k j).least v (and_left (leb (listed k j).least v) (leb v (listed k j).most) is)
+      low = leb-true (listed k j).least v (and_parts (leb (listed k j).least v) (leb v (listed k j).most) is).0
 
       high : v ≤ (listed k j).most
-      high = leb-true v (listed k j).most (and_right (leb (listed k j).least v) (leb v (listed k j).most) is)
+      high = leb-true v (listed k j).most (and_parts (leb (listed k j).least v) (leb v (listed k j).most) is).1
 
       go : (b : Bool) → meet k j ≡ b → share_word k v j v ≡ true
       go false m = absurd (omega (arith, low, high, apart m))
@@ -103,10 +105,10 @@ module _ (k j : ℕ) (order : k < j) (known : j < requests) where
   pub share-listed : (v u : ℕ) → share_word k v j u ≡ true → (is_listed k j v ≡ true) × (u ≡ v)
   unfolding is_listed share_word word_of listed meet lowest highest
   share-listed v u is =
-      let first = and_left (allows (row_of k) v && allows (row_of j) u) (eqb (word_of k v) (word_of j u)) is in
-      let one = and_left (allows (row_of k) v) (allows (row_of j) u) first in
-      let other = and_right (allows (row_of k) v) (allows (row_of j) u) first in
-      let word = eqb-true (word_of k v) (word_of j u) (and_right (allows (row_of k) v && allows (row_of j) u) (eqb (word_of k v) (word_of j u)) is) in
+      let first = (and_parts (allows (row_of k) v && allows (row_of j) u) (eqb (word_of k v) (word_of j u)) is).0 in
+      let one = (and_parts (allows (row_of k) v) (allows (row_of j) u) first).0 in
+      let other = (and_parts (allows (row_of k) v) (allows (row_of j) u) first).1 in
+      let word = eqb-true (word_of k v) (word_of j u) (and_parts (allows (row_of k) v && allows (row_of j) u) (eqb (word_of k v) (word_of j u)) is).1 in
       let small = value-small k (omega arith) v one in
       let small' = value-small j known u other in
       let code : (row_of k).code ≡ (row_of j).code = omega arith in
@@ -125,4 +127,4 @@ module _ (k j : ℕ) (order : k < j) (known : j < requests) where
   exceptions-exact v u =
       both_ways (share_word k v j u) (is_listed k j v && eqb u v)
       (λ e. let h = share-listed v u e in rw (h.0, eq-eqb u v h.1))
-      (λ e. rw (eqb-true u v (and_right (is_listed k j v) (eqb u v) e)) (listed-share v (and_left (is_listed k j v) (eqb u v) e)))
+      (λ e. rw (eqb-true u v (and_parts (is_listed k j v) (eqb u v) e).1) (listed-share v (and_parts (is_listed k j v) (eqb u v) e).0))

@@ -7,8 +7,8 @@ use Prim.Native.Nat.{ℕ, suc, ◌+◌, ◌-◌, ◌<◌, ◌≤◌}
 use native.Mathlib.Omega.{arith}
 use lib.Dec.{eqb}
 use lib.ListN.{length, drop}
-use Rattle.words.proofs.Tests.{or_left, or_right}
-use Rattle.requests.specs.Requests.{Row}
+use Rattle.std.proofs.lemmas.Bool.{or_parts}
+use Rattle.requests.specs.declared.table.Row.{Row}
 use Rattle.requests.specs.Codec.{is_word_of, having_from, is_known}
 use Rattle.requests.specs.Rows.{first_from}
 
@@ -57,4 +57,4 @@ module _ (c v : ℕ) where
   unfolding is_known having_from is_word_of
   having-unknown [] k h = refl
   having-unknown (r ∷ rs) k h =
-      rw (or_left (eqb r.code c) (is_known rs c) h) (having-unknown rs (suc k) (or_right (eqb r.code c) (is_known rs c) h))
+      rw (or_parts (eqb r.code c) (is_known rs c) h).0 (having-unknown rs (suc k) (or_parts (eqb r.code c) (is_known rs c) h).1)

@@ -11,13 +11,15 @@ use borrow.Author.Tests.{eqb-true, ltb-true, leb-true, eq-eqb, lt-ltb, not-true}
 use lib.Arith.{digits_div, digits_mod}
 use lib.Dec.{T, eqb, leb, ltb}
 use lib.ListN.{length, get_or}
-use Rattle.words.proofs.Tests.{and_left, and_right, passes}
+use Rattle.std.proofs.lemmas.Bool.{and_parts}
+use Rattle.words.proofs.Tests.{passes}
 use Rattle.requests.specs.Parameters.{composed, mode_fields, lamp_fields, cover_fields}
-use Rattle.requests.specs.Requests.{Row, rows, requests, row_of, allows, code_in, value_in}
-use Rattle.requests.specs.Codec.{is_word_of, having_from, having, is_known, meaning_by, decode_of, word_of, encode_of}
+use Rattle.requests.specs.declared.table.Row.{Row}
+use Rattle.requests.specs.Requests.{rows, requests, row_of, allows, code_in, value_in}
+use Rattle.requests.specs.Codec.{is_word_of, having_from, having, meaning_by, decode_of, word_of, encode_of}
 use Rattle.requests.specs.Shared.{exceptions, shares_by, first_by, is_shared, first_of, is_among}
-use Rattle.requests.specs.declared.Meaning.TheVariants.{One, Shared, Unknown, OutOfRange}
-use Rattle.requests.specs.declared.Encoded.TheVariants as encoded
+use Rattle.std.specs.Prelude.{Ok}
+use Rattle.requests.specs.declared.Meaning.TheVariants.{One, Shared}
 use Rattle.requests.proofs.Every.{every, every-at}
 use Rattle.requests.proofs.Encoding.{value-small}
 
@@ -38,7 +40,7 @@ module _ (k v : ℕ) (known : k < requests) (fine : allows (row_of k) v ≡ true
   those : are_those (having_from rows 0 (row_of k).code v) k v ≡ true
   unfolding allows
   those =
-      let below = leb-true v (row_of k).most (and_right (leb (row_of k).least v) (leb v (row_of k).most) fine) in
+      let below = leb-true v (row_of k).most (and_parts (leb (row_of k).least v) (leb v (row_of k).most) fine).1 in
       let few : v < suc (row_of k).most = omega arith in
       let values = every-at (λ k. every (reads_back k) (suc (row_of k).most)) requests all_read k known in
       rw fine at (every-at (reads_back k) (suc (row_of k).most) (passes (every (reads_back k) (suc (row_of k).most)) values) v few)
@@ -52,40 +54,36 @@ module _ (k v : ℕ) (known : k < requests) (fine : allows (row_of k) v ≡ true
   unfolding word_of
   own_value = digits_mod (row_of k).code {m = 1024} (value-small k known v fine)
 
-  word_read : decode_of (word_of k v) ≡ cond (is_shared k v) (Shared (first_of k) v) (One k v)
+  word_read : decode_of (word_of k v) ≡ cond (is_shared k v) (Ok (Shared (first_of k) v)) (Ok (One k v))
   unfolding decode_of having meaning_by
   word_read = rw (own_code, own_value) (go (having_from rows 0 (row_of k).code v) those)
     where
-      go : (l : List ℕ) → are_those l k v ≡ true → meaning_by l (word_of k v) ≡ cond (is_shared k v) (Shared (first_of k) v) (One k v)
+      go : (l : List ℕ) → are_those l k v ≡ true → meaning_by l (word_of k v) ≡ cond (is_shared k v) (Ok (Shared (first_of k) v)) (Ok (One k v))
       go [] e = absurd (false≢true e)
       go (j ∷ []) e =
           rw (
             own_value,
-            eqb-true j k (and_left (eqb j k) (not (is_shared k v)) e),
-            not-true (is_shared k v) (and_right (eqb j k) (not (is_shared k v)) e),
+            eqb-true j k (and_parts (eqb j k) (not (is_shared k v)) e).0,
+            not-true (is_shared k v) (and_parts (eqb j k) (not (is_shared k v)) e).1,
           )
       go (j ∷ i ∷ is) e =
           rw (
             own_value,
-            eqb-true j (first_of k) (and_left (eqb j (first_of k)) (is_shared k v) e),
-            and_right (eqb j (first_of k)) (is_shared k v) e,
+            eqb-true j (first_of k) (and_parts (eqb j (first_of k)) (is_shared k v) e).0,
+            (and_parts (eqb j (first_of k)) (is_shared k v) e).1,
           )
 
--- two cases of an answer differ
-differ : {A : Type 0} → ◌≡◌ {A = ℕ} 0 1 → A
-differ z = absurd (omega arith)
-
 -- what encodes: a request, an allowed value, and their word
-made : (k v w : ℕ) → encode_of k v ≡ encoded.Made w → (k < requests) × ((allows (row_of k) v ≡ true) × (word_of k v ≡ w))
+made : (k v w : ℕ) → encode_of k v ≡ Ok w → (k < requests) × ((allows (row_of k) v ≡ true) × (word_of k v ≡ w))
 unfolding encode_of
 made k v w e = go (ltb k requests) refl (allows (row_of k) v) refl
   where
     go : (a : Bool) → ltb k requests ≡ a → (b : Bool) → allows (row_of k) v ≡ b → (k < requests) × ((allows (row_of k) v ≡ true) × (word_of k v ≡ w))
-    go false p b q = differ (cc (rw p at e))
-    go true p false q = differ (cc (rw (p, q) at e))
+    go false p b q = absurd (cc (rw p at e))
+    go true p false q = absurd (cc (rw (p, q) at e))
     go true p true q = let same = rw (p, q) at e in (ltb-true k requests p, (q, cc))
 
-pub written_read : (k v w : ℕ) → encode_of k v ≡ encoded.Made w → decode_of w ≡ cond (is_shared k v) (Shared (first_of k) v) (One k v)
+pub written_read : (k v w : ℕ) → encode_of k v ≡ Ok w → decode_of w ≡ cond (is_shared k v) (Ok (Shared (first_of k) v)) (Ok (One k v))
 written_read k v w e = let m = made k v w e in rw m.1.1 at (word_read k v m.0 m.1.0)
 
 -- a request of those that have a word stands in the table, and its row has the word
@@ -116,41 +114,37 @@ module _ (c v k : ℕ) where
       go true p false q rest e = later r rs n (rest (rw (p, q) at e))
       go false p x q rest e = later r rs n (rest (rw p at e))
 
-pub read-written : (w k : ℕ) → is_among k (having w) ≡ true → encode_of k (value_in w) ≡ encoded.Made w
+pub read-written : (w k : ℕ) → is_among k (having w) ≡ true → encode_of k (value_in w) ≡ Ok w
 unfolding encode_of having is_word_of word_of rows
 read-written w k e =
     let h = among (code_in w) (value_in w) k rows 0 e in
     let own : is_word_of (row_of k) (code_in w) (value_in w) ≡ true = rw (sub-zero k) at h.own in
     let known : k < requests = let within = h.within in omega arith in
-    let code = eqb-true (row_of k).code (code_in w) (and_left (eqb (row_of k).code (code_in w)) (allows (row_of k) (value_in w)) own) in
-    let fine = and_right (eqb (row_of k).code (code_in w)) (allows (row_of k) (value_in w)) own in
-    rw (lt-ltb k requests known, fine, code) (ap encoded.Made (div-add-mod' w 1024))
+    let code = eqb-true (row_of k).code (code_in w) (and_parts (eqb (row_of k).code (code_in w)) (allows (row_of k) (value_in w)) own).0 in
+    let fine = (and_parts (eqb (row_of k).code (code_in w)) (allows (row_of k) (value_in w)) own).1 in
+    rw (lt-ltb k requests known, fine, code) (ap Ok (div-add-mod' w 1024))
 
 -- one request alone has a word that is read as one, and that request and its value give the word
-one-having : (w k v : ℕ) → decode_of w ≡ One k v → (having w ≡ k ∷ []) × (value_in w ≡ v)
+one-having : (w k v : ℕ) → decode_of w ≡ Ok (One k v) → (having w ≡ k ∷ []) × (value_in w ≡ v)
 unfolding decode_of meaning_by
 one-having w k v e = go (having w) refl
   where
     go : (l : List ℕ) → having w ≡ l → (having w ≡ k ∷ []) × (value_in w ≡ v)
-    go [] p = none (is_known rows (code_in w)) (rw p at e)
-      where
-        none : (b : Bool) → cond b OutOfRange Unknown ≡ One k v → (having w ≡ k ∷ []) × (value_in w ≡ v)
-        none true f = differ cc
-        none false f = differ cc
+    go [] p = absurd (cc (rw p at e))
     go (j ∷ []) p =
         let same = rw p at e in
         let request : j ≡ k = cc in
         let value : value_in w ≡ v = cc in
         (p ∙ ap (λ (x : ℕ). x ∷ []) request, value)
-    go (j ∷ i ∷ is) p = differ (cc (rw p at e))
+    go (j ∷ i ∷ is) p = absurd (cc (rw p at e))
 
-pub one_written : (w k v : ℕ) → decode_of w ≡ One k v → encode_of k v ≡ encoded.Made w
+pub one_written : (w k v : ℕ) → decode_of w ≡ Ok (One k v) → encode_of k v ≡ Ok w
 unfolding is_among
 one_written w k v e =
     let h = one-having w k v e in
     rw h.1 at (read-written w k (rw (h.0, eq-eqb k k refl)))
 
-pub one-alone : (w k v j : ℕ) → decode_of w ≡ One k v → is_among j (having w) ≡ true → j ≡ k
+pub one-alone : (w k v j : ℕ) → decode_of w ≡ Ok (One k v) → is_among j (having w) ≡ true → j ≡ k
 unfolding is_among
 one-alone w k v j e a = sym (eqb-true k j (or-false (eqb k j) (rw (one-having w k v e).0 at a)))
   where
@@ -159,23 +153,19 @@ one-alone w k v j e a = sym (eqb-true k j (or-false (eqb k j) (rw (one-having w 
     or-false false h = h
 
 -- a word that is read as shared is given by each of the requests that have it, with the same value, and the first of them is told
-shared-having : (w f v : ℕ) → decode_of w ≡ Shared f v → (is_among f (having w) ≡ true) × (value_in w ≡ v)
+shared-having : (w f v : ℕ) → decode_of w ≡ Ok (Shared f v) → (is_among f (having w) ≡ true) × (value_in w ≡ v)
 unfolding decode_of meaning_by is_among
 shared-having w f v e = go (having w) refl
   where
     go : (l : List ℕ) → having w ≡ l → (is_among f (having w) ≡ true) × (value_in w ≡ v)
-    go [] p = none (is_known rows (code_in w)) (rw p at e)
-      where
-        none : (b : Bool) → cond b OutOfRange Unknown ≡ Shared f v → (is_among f (having w) ≡ true) × (value_in w ≡ v)
-        none true g = differ cc
-        none false g = differ cc
-    go (j ∷ []) p = differ (cc (rw p at e))
+    go [] p = absurd (cc (rw p at e))
+    go (j ∷ []) p = absurd (cc (rw p at e))
     go (j ∷ i ∷ is) p =
         let same = rw p at e in
         let request : j ≡ f = cc in
         let value : value_in w ≡ v = cc in
         (rw (p, eq-eqb j f request), value)
 
-pub shared-written : (w f v : ℕ) → decode_of w ≡ Shared f v
-    → (is_among f (having w) ≡ true) × ((k : ℕ) → is_among k (having w) ≡ true → encode_of k v ≡ encoded.Made w)
+pub shared-written : (w f v : ℕ) → decode_of w ≡ Ok (Shared f v)
+    → (is_among f (having w) ≡ true) × ((k : ℕ) → is_among k (having w) ≡ true → encode_of k v ≡ Ok w)
 shared-written w f v e = let h = shared-having w f v e in (h.0, λ k a. rw h.1 at (read-written w k a))

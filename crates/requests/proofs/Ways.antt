@@ -1,6 +1,7 @@
 -- The ways through the decoder: t is the table in the code, c and v the code and the parameter of the word w.
 -- Assumes nothing.
-use mathlib.Core.Path.{◌≡◌, refl}
+use mathlib.Core.Path.{◌≡◌, refl, ap}
+use Rattle.std.specs.Prelude.{Result, Ok, Err}
 use mathlib.Core.Bool.{Bool, true, false, cond, not}
 use mathlib.Core.List.{List, [], ◌∷◌}
 use Prim.Native.Nat.{ℕ, suc, ◌+◌, ◌<◌, ◌≤◌, ◌/◌, ◌%◌}
@@ -9,39 +10,29 @@ use native.Mathlib.Numerals.{add-one}
 use native.Mathlib.Omega.{arith}
 use lib.ListN.{length, drop, length-drop}
 use Rattle.requests.specs.Requests.{rows, code_in, value_in}
-use Rattle.requests.specs.Codec.{having_from, having, is_known, is_none, meaning_by, decode_of, meaning_number, meaning_request, finding_number}
-use Rattle.requests.specs.Rows.{rows_in, first_from}
+use Rattle.requests.specs.Codec.{having_from, having, is_known, refused_of, is_none, meaning_by, decode_of, meaning_number, finding_number}
+use Rattle.requests.specs.Rows.{first_from}
+use Rattle.requests.specs.declared.table.Row.{Row}
 use Rattle.requests.specs.declared.Meaning.{Meaning}
-use Rattle.requests.specs.declared.Meaning.TheVariants.{One, Shared, Unknown, OutOfRange}
+use Rattle.requests.specs.declared.Meaning.TheVariants.{One, Shared}
+use Rattle.requests.specs.declared.RequestError.{RequestError}
 use Rattle.requests.proofs.Having.{having-none, having-first, having-unknown}
-
--- what is added to the number of the first request of several
-pub shared-number : (m : Meaning) (k v : ℕ) → m ≡ Shared k v → 128 + k ≡ meaning_request m
-shared-number m k v e = rw e
-
--- why no request has a word: b is whether any row has its code
-module _ (t : List (List ℕ)) (c : ℕ) {b : Bool} (is : b ≡ is_known (rows_in t) c) where
-  pub refused-out : b ≡ true → OutOfRange ≡ cond (is_known (rows_in t) c) OutOfRange Unknown
-  refused-out known = rw (← is, known)
-
-  pub refused-unknown : b ≡ false → Unknown ≡ cond (is_known (rows_in t) c) OutOfRange Unknown
-  refused-unknown other = rw (← is, other)
 
 rows_long : length rows ≡ 32
 unfolding rows
 rows_long = refl
 
-module _ (w : ℕ) (t : List (List ℕ)) (table : rows_in t ≡ rows) {f : ℕ} (first : f ≡ first_from (drop 0 (rows_in t)) 0 (w / 1024) (w % 1024)) where
+module _ (w : ℕ) (t : List Row) (table : t ≡ rows) {f : ℕ} (first : f ≡ first_from (drop 0 t) 0 (w / 1024) (w % 1024)) where
   found : f ≡ first_from rows 0 (code_in w) (value_in w)
   found = rw table at first
 
-  pub decode-none : 32 ≤ f → {r : Meaning} → r ≡ cond (is_known (rows_in t) (w / 1024)) OutOfRange Unknown → r ≡ decode_of w
+  pub decode-none : 32 ≤ f → {r : RequestError} → r ≡ refused_of t (w / 1024) → Err r ≡ decode_of w
   unfolding decode_of having meaning_by
   decode-none past is =
       let none = having-none (code_in w) (value_in w) rows 0 (omega (arith, rows_long, found)) in
-      rw none (rw table at is)
+      rw none (ap Err (rw table at is))
 
-  module _ (some : f < 32) {s : ℕ} (second : s ≡ first_from (drop (f + 1) (rows_in t)) (f + 1) (w / 1024) (w % 1024)) where
+  module _ (some : f < 32) {s : ℕ} (second : s ≡ first_from (drop (f + 1) t) (f + 1) (w / 1024) (w % 1024)) where
     others : List ℕ
     others = having_from (drop (suc f) rows) (suc f) (code_in w) (value_in w)
 
@@ -57,20 +48,20 @@ module _ (w : ℕ) (t : List (List ℕ)) (table : rows_in t ≡ rows) {f : ℕ} 
     rest-long : suc f + length (drop (suc f) rows) ≡ 32
     rest-long = omega (arith, length-drop (suc f) rows, rows_long)
 
-    pub decode-one : 32 ≤ s → One f (w % 1024) ≡ decode_of w
+    pub decode-one : 32 ≤ s → Ok (One f (w % 1024)) ≡ decode_of w
     unfolding decode_of meaning_by others
     decode-one past =
         let none : others ≡ [] = having-none (code_in w) (value_in w) (drop (suc f) rows) (suc f) (omega (arith, rest-long, later)) in
         rw (all, none)
 
-    pub decode-shared : s < 32 → Shared f (w % 1024) ≡ decode_of w
+    pub decode-shared : s < 32 → Ok (Shared f (w % 1024)) ≡ decode_of w
     unfolding decode_of meaning_by others
     decode-shared more =
         let more' = having-first (code_in w) (value_in w) (drop (suc f) rows) (suc f) (omega (arith, rest-long, later)) in
         rw (all, more')
 
 -- the number of what was decoded is the one that the word gives
-pub finding-number : (w : ℕ) (r : Meaning) → r ≡ decode_of w → meaning_number r ≡ finding_number w
+pub finding-number : (w : ℕ) (r : Result Meaning RequestError) → r ≡ decode_of w → meaning_number r ≡ finding_number w
 unfolding finding_number decode_of meaning_by is_none having
 finding-number w r e = rw e (go (is_known rows (code_in w)) refl (having w) refl)
   where

@@ -1,7 +1,8 @@
 -- Source document 000, section 4.2: the fields that are drawn in a request's parameter, bit 0 being its lowest.
 -- Assumes nothing.
 use Rattle.std.specs.Prelude.{List, [], ◌∷◌}
-use Rattle.bitfields.specs.Fields.{Field, field}
+use Rattle.bitfields.specs.declared.Field.{Field}
+use Rattle.bitfields.specs.Fields.{field}
 unfoldable pub use Rattle.bitfields.specs.Fields.{composed}
 
 -- HSET_PEM_Mode: BB

@@ -2,13 +2,8 @@
 -- of 000's table.
 -- Assumes nothing.
 use Rattle.std.specs.Prelude.{ℕ, ◌-◌, ◌/◌, ◌%◌, ◌^◌, Bool, ◌&&◌, List, [], ◌∷◌, leb, get_or}
+use Rattle.requests.specs.declared.table.Row.{Row}
 use Rattle.requests.specs.Parameters.{composed, mode_fields, lamp_fields, cover_fields}
-
--- A code, and the least and the greatest value of the parameter.
-pub record Row : Type 0 where
-  pub code : ℕ
-  pub least : ℕ
-  pub most : ℕ
 
 -- Any value of so many bits, and one value alone.
 abbrev pub bits : ℕ → ℕ → Row

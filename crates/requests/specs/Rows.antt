@@ -1,14 +1,8 @@
--- The table as the code has it: each row is three numbers, a code and the least and the greatest value.
+-- The rows one after another, as the code goes through them.
 -- Assumes nothing.
-use Rattle.std.specs.Prelude.{cond, List, [], ◌∷◌, map, ℕ, suc, get_or}
-use Rattle.requests.specs.Requests.{Row}
+use Rattle.std.specs.Prelude.{cond, List, [], ◌∷◌, ℕ, suc}
+use Rattle.requests.specs.declared.table.Row.{Row}
 use Rattle.requests.specs.Codec.{is_word_of}
-
-abbrev pub row_in : List ℕ → Row
-row_in row = record { code = get_or row 0 0; least = get_or row 1 0; most = get_or row 2 0 }
-
-abbrev pub rows_in : List (List ℕ) → List Row
-rows_in rows = map row_in rows
 
 -- The first of these rows, the kth of the table on, that has the word with a code and a parameter; past the table where there is none.
 unfoldable pub first_from : List Row → ℕ → ℕ → ℕ → ℕ

@@ -1,11 +1,42 @@
 // The requests, numbered in the order of source document 000's table: the code and the least and the greatest value of each.
 ghost use Rattle.std.specs.Prelude.{◌≡◌};
-ghost use Rattle.requests.specs.Requests.{rows};
-ghost use Rattle.requests.specs.Rows.{rows_in};
+ghost use Rattle.requests.specs.Requests.{rows, allows};
+ghost use Rattle.requests.specs.Codec.{is_word_of};
 
 pub const REQUESTS: usize = 32;
 
-const TABLE: [[u16; 3]; REQUESTS] = [
+// A request's code, and the least and the greatest value of its parameter.
+#[derive(Clone, Copy)]
+pub(crate) struct Row {
+    pub(crate) code: u16,
+    pub(crate) least: u16,
+    pub(crate) most: u16,
+}
+
+impl Row {
+    // Whether the row allows a value.
+    pub(crate) fn is_allowed(self, value: u16) -> bool
+        ensures { result ≡ allows self value }
+    {
+        (self.least <= value) & (value <= self.most)
+    }
+
+    // Whether the word with a code and a parameter is one of the row's.
+    pub(crate) fn is_word_of(self, code: u16, value: u16) -> bool
+        ensures { result ≡ is_word_of self code value }
+    {
+        (self.code == code) & self.is_allowed(value)
+    }
+}
+
+// A table of rows [code, least, most].
+macro_rules! rows {
+    ($([$code:expr, $least:expr, $most:expr],)*) => {
+        [$(Row { code: $code, least: $least, most: $most }),*]
+    };
+}
+
+const TABLE: [Row; REQUESTS] = rows![
     [0b001000, 0, 255], // 0 HSET_Bias
     [0b001001, 0, 255], // 1 HSET_I_Lamp_Spect_T
     [0b001001, 0, 255], // 2 HSET_I_Lamp_Spect_S
@@ -40,8 +71,8 @@ const TABLE: [[u16; 3]; REQUESTS] = [
     [0b010011, 0, 1023], // 31 HSET_Test_Init
 ];
 
-pub(crate) fn table() -> [[u16; 3]; REQUESTS]
-    ensures { rows_in result ≡ rows }
+pub(crate) fn table() -> [Row; REQUESTS]
+    ensures { result ≡ rows }
 {
     TABLE
 }

@@ -1,16 +1,16 @@
--- `pixels::ones` meets its contract. The loop's invariant: the bits of the first i bytes are counted.
-use borrow.Author.Rules.{rules}
-use Rattle.pixels.proofs.Maps.{none-counted, count-byte, count_fits, count-done}
+-- `pixels::ones` meets its contract: the chain adds up the bits of each byte.
+use Rattle.std.proofs.Common.{◌≡◌, ◌∙◌, ◌<◌, ◌^◌, rules}
+use Rattle.std.specs.List.{sum_by}
+use Rattle.std.proofs.iter.runs.Made.{chains}
+use lib.Count.{ones}
+use Rattle.pixels.proofs.Maps.{bits-counted, ones-few}
 use Rattle.pixels.proofs.ones.Goals as goal
 
-pub loop-i-init : goal.loop-i-init
-loop-i-init c = search (rules, none-counted)
-
-pub overflow_add-count : goal.overflow_add-count
-overflow_add-count c = search (rules, count_fits, c.shared_slice_known-1.given)
-
-pub loop-i-preserved : goal.loop-i-preserved
-loop-i-preserved c = search (rules, count-byte, c.shared_slice_known-1.given)
+pub sum-requires-clause-fits : goal.sum-requires-clause-fits
+sum-requires-clause-fits c =
+    let few : sum_by ones c.args.map.now < 2 ^ 32 = ones-few c.args.map.now c.type_inv.map c.requires in search (rules, chains)
 
 pub returns : goal.returns
-returns c = search (rules, count-done)
+returns c =
+    let sum : c.sum.result ≡ sum_by ones c.args.map.now = search (rules, chains) in
+    sum ∙ bits-counted c.args.map.now c.type_inv.map

@@ -4,16 +4,16 @@ use borrow.Author.Rules.{rules}
 use Rattle.requests.proofs.encode.Goals as goal
 
 pub returns-then-at-ge-REQUESTS : goal.returns-then-at-ge-REQUESTS
-returns-then-at-ge-REQUESTS c = search (rules, encode-unknown, encoding-number)
+returns-then-at-ge-REQUESTS c = rw (← c.from-at.ensures) (search (rules, encode-unknown, encoding-number))
 
 pub overflow_mul-result : goal.overflow_mul-result
-overflow_mul-result c = search (rules, code_fits)
+overflow_mul-result c = rw c.from-at.ensures (search (rules, code_fits))
 
 pub overflow_add-result : goal.overflow_add-result
-overflow_add-result c = search (rules, encode-fits)
+overflow_add-result c = rw c.from-at.ensures (search (rules, encode-fits))
 
 pub returns-then-is_allowed : goal.returns-then-is_allowed
-returns-then-is_allowed c = search (rules, encode-made, encoding-number)
+returns-then-is_allowed c = rw (← c.from-at.ensures) (search (rules, encode-made, encoding-number))
 
 pub returns : goal.returns
-returns c = search (rules, encode-out, encoding-number)
+returns c = rw (← c.from-at.ensures) (search (rules, encode-out, encoding-number))

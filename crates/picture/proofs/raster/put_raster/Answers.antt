@@ -1,6 +1,5 @@
 -- `picture::raster::put_raster` meets its contract.
 use Rattle.layout.proofs.Below.{texts-first, texts-next}
-use Rattle.layout.proofs.Writing.{written-long}
 use Rattle.picture.proofs.Rows.{raster-done}
 use borrow.Author.Rules.{rules}
 use Rattle.picture.proofs.raster.put_raster.Goals as goal
@@ -10,9 +9,6 @@ loop-row-init c = search (rules, texts-first)
 
 pub loop-row-preserved : goal.loop-row-preserved
 loop-row-preserved c = search (rules, texts-next)
-
-pub shape_of-out : goal.shape_of-out
-shape_of-out c = written-long c.loop-row.invariant.part
 
 pub returns : goal.returns
 returns c = search (rules, raster-done)
