@@ -2,7 +2,7 @@
 -- Assumes nothing.
 use lib.Dec.{T}
 use Rattle.words.specs.Kinds.{rows, kind_from, kind_of, kinds, least, greatest, allowed}
-use Rattle.words.specs.Codec.{decode_of, judged, decoded_number, word_of}
+use Rattle.words.specs.Codec.{decode_of, judged, decode_error_number, decoded_number, word_of}
 use Rattle.head.specs.Limits.{length_of, readout_of}
 use Rattle.head.specs.Range.{all_pass, register_tests, latch_tests, flag_tests, motion_tests, place, begun_tests, work_in_range, in_range}
 use Rattle.head.specs.Flags.{out_of_range_flags}
@@ -28,7 +28,7 @@ pub starred : T (hold table)
 unfolding hold table after_words answered housekept ir_housekept ccd_housekept
     outcome_number act_number cause_number answer_of on_decoded on_word out_of_turn after act_of out_of_range_flags task_of tick_of ticks_of passed
     in_range all_pass register_tests latch_tests flag_tests motion_tests place begun_tests work_in_range length_of readout_of
-    decoded_number decode_of judged kind_of kind_from kinds rows least greatest allowed word_of
+    decoded_number decode_error_number decode_of judged kind_of kind_from kinds rows least greatest allowed word_of
     ir_due_after ccd_due_after both_written_of written_of written_if buffer_after acquisition ir_block_of ir_shown ir_status ccd_block_of ccd_shown
     ccd_status lamp_shutter_word lamp_shutter_fields ir_flag_word ir_flag_fields sine_word sine_in sine_fields vis_flag_word vis_flag_fields composed
     values_in

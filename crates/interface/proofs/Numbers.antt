@@ -3,41 +3,38 @@
 use mathlib.Core.Path.{◌≡◌, ◌∙◌}
 use Prim.Native.Nat.{ℕ, ◌+◌, ◌*◌}
 use native.Mathlib.Omega.{arith}
-use Rattle.words.specs.Codec.{decoded_number, encoded_number}
-use Rattle.words.specs.declared.Decoded.{Decoded}
-use Rattle.words.specs.declared.Decoded.TheVariants.{Word, Unknown, OutOfRange}
-use Rattle.words.specs.declared.Encoded.{Encoded}
-use Rattle.words.specs.declared.Encoded.TheVariants.{Made, Refused}
+use Rattle.std.specs.Prelude.{Result, Ok, Err}
+use Rattle.words.specs.Codec.{decode_error_number, encode_error_number, decoded_number, encoded_number}
+use Rattle.words.specs.declared.Word.{Word}
+use Rattle.words.specs.declared.DecodeError.{DecodeError}
+use Rattle.words.specs.declared.EncodeError.{EncodeError}
 use Rattle.head.specs.Numbers.{due_number}
 use Rattle.head.specs.declared.state.Task.{Task}
 use Rattle.head.specs.declared.state.Flags.{Flags}
 use Rattle.head.specs.declared.tick.Due.{Due}
 use Rattle.head.specs.declared.tick.Due.TheVariants.{Nothing, Blocks}
 use Rattle.head.specs.declared.tick.Due.TheVariants as due
-use Rattle.interface.specs.Codec.{decoded_answer, encoded_answer}
+use Rattle.interface.specs.Codec.{refused_kind, decoded_answer, encoded_answer}
 use Rattle.interface.specs.Stepping.{flag_bits, due_answer}
 
-module _ (d : Decoded) (n : ℕ) (is : n ≡ decoded_number d) where
-  pub word_number : (k b : ℕ) → d ≡ Word k b → n * 0x1000000 + k * 0x10000 + b ≡ decoded_answer d
-  unfolding decoded_answer
-  word_number k b e = rw (is, e)
+module _ {d : Result Word DecodeError} where
+  pub word-number : {w : Word} → d ≡ Ok w → {k b : ℕ} → k ≡ w.kind → b ≡ w.bits → k * 0x10000 + b ≡ decoded_answer d
+  unfolding decoded_answer decoded_number
+  word-number e kind bits = rw (e, kind, bits) (omega arith)
 
-  pub unknown-number : d ≡ Unknown → n * 0x1000000 ≡ decoded_answer d
-  unfolding decoded_answer
-  unknown-number e = rw (is, e) (omega arith)
+  pub no-word-number : {f : DecodeError} → d ≡ Err f → {n k : ℕ} → n ≡ decode_error_number f → k ≡ refused_kind f
+      → n * 0x1000000 + k * 0x10000 ≡ decoded_answer d
+  unfolding decoded_answer decoded_number
+  no-word-number e number kind = rw (e, number, kind) (omega arith)
 
-  pub out-of-range-number : (k : ℕ) → d ≡ OutOfRange k → n * 0x1000000 + k * 0x10000 ≡ decoded_answer d
-  unfolding decoded_answer
-  out-of-range-number k e = rw (is, e) (omega arith)
+module _ {m : Result ℕ EncodeError} where
+  pub made-number : {w : ℕ} → m ≡ Ok w → {v : ℕ} → v ≡ w → v ≡ encoded_answer m
+  unfolding encoded_answer encoded_number
+  made-number e same = rw (e, same) (omega arith)
 
-module _ (m : Encoded) (n : ℕ) (is : n ≡ encoded_number m) where
-  pub made-number : (w : ℕ) → m ≡ Made w → n * 0x1000000 + w ≡ encoded_answer m
-  unfolding encoded_answer
-  made-number w e = rw (is, e) (omega arith)
-
-  pub no-word-number : m ≡ Refused → n * 0x1000000 ≡ encoded_answer m
-  unfolding encoded_answer
-  no-word-number e = rw (is, e) (omega arith)
+  pub not-made-number : {f : EncodeError} → m ≡ Err f → {n : ℕ} → n ≡ encode_error_number f → n * 0x1000000 ≡ encoded_answer m
+  unfolding encoded_answer encoded_number
+  not-made-number e number = rw (e, number) (omega arith)
 
 module _ (d : Due) (n : ℕ) (is : n ≡ due_number d) where
   pub nothing-due : d ≡ Nothing → n ≡ due_answer d

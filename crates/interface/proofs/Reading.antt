@@ -7,32 +7,35 @@ use Prim.Native.Nat.{ℕ, suc, ◌+◌, ◌*◌, ◌<◌, ◌≤◌}
 use native.Mathlib.Omega.{arith}
 use borrow.Author.Tests.{eq-eqb, ne_eqb}
 use lib.Dec.{eqb, lit<}
-use lib.ListN.{length}
+use lib.ListN.{length, take}
+use Rattle.std.specs.Prelude.{Result, Ok, Err}
+use Rattle.std.specs.Result.{result_map_both}
 use Rattle.blocks.specs.Numbers.{refusal_number, refusal_place}
-use Rattle.blocks.specs.Ir.{ir_judged, ir_answer_of, ir_readings_of, ir_read_of}
-use Rattle.blocks.specs.Ccd.{ccd_judged, ccd_rest_judged, ccd_answer_of, ccd_readings_of, ccd_read_of}
+use Rattle.blocks.specs.Ir.{ir_judged, ir_answer_of, ir_readings, ir_block, ir_read_of}
+use Rattle.blocks.specs.Ccd.{ccd_judged, ccd_rest_judged, ccd_answer_of, ccd_readings, ccd_block, ccd_read_of}
 use Rattle.blocks.specs.declared.refusal.Refusal.{Refusal}
 use Rattle.blocks.specs.declared.refusal.Refusal.TheVariants.{Length}
-use Rattle.blocks.specs.declared.ir.IrAnswer.TheVariants as ir
-use Rattle.blocks.specs.declared.ir.IrRead.{IrRead}
-use Rattle.blocks.specs.declared.ccd.CcdAnswer.TheVariants as ccd
-use Rattle.blocks.specs.declared.ccd.CcdRead.{CcdRead}
+use Rattle.blocks.specs.declared.ir.IrBlock.{IrBlock}
+use Rattle.blocks.specs.declared.ccd.CcdBlock.{CcdBlock}
+use Rattle.blocks.proofs.Parts.{made_of}
 use Rattle.interface.specs.Blocks.{ir_numbers, ccd_numbers, refusal_answer, ir_answer, ccd_answer, ir_said_numbers, ccd_said_numbers, ir_numbers_after, ccd_numbers_after, ir_read_for, ccd_read_for, most_place}
 
 -- above every answer: a refusal's number is less than 256
 abbrev bound : ℕ
 bound = 0x100 * suc most_place
 
--- What the definitions of a channel's reader say: M is what a block says, A the answer, R what is read.
-pub record Reader {M A R : Type 0} (says : M → A) (refused : Refusal → A) (answer : R → A) (readings : R → List ℕ) (read_of : List ℕ → R)
-    (answer_of : List ℕ → A) (count : ℕ) (read_for : List ℕ → List ℕ → A) (number : A → ℕ) (said : List ℕ → M → List ℕ)
-    (after : A → List ℕ → List ℕ → List ℕ) : Type 0 where
-  read_answer : (block : List ℕ) → answer (read_of block) ≡ answer_of block
-  read-for : (block old : List ℕ) → read_for block old ≡ cond (eqb (length old) count) (answer_of block) (refused Length)
-  says-number : (m : M) → number (says m) ≡ 0
-  refused-number : (r : Refusal) → number (refused r) ≡ refusal_answer r
-  says-after : (m : M) (block old : List ℕ) → answer_of block ≡ says m → after (says m) block old ≡ said (readings (read_of block)) m
-  refused-after : (r : Refusal) (block old : List ℕ) → after (refused r) block old ≡ old
+-- What the definitions of a channel's reader say: M is what a block says, R what is read of it, with its first readings.
+pub record Reader {M R : Type 0} (made : List ℕ → M → R) (readings : R → List ℕ) (meaning : R → M) (first : ℕ) (read_of : List ℕ → Result R Refusal)
+    (answer_of : List ℕ → Result M Refusal) (count : ℕ) (read_for : List ℕ → List ℕ → Result M Refusal) (number : Result M Refusal → ℕ)
+    (said : List ℕ → M → List ℕ) (after : Result M Refusal → List ℕ → List ℕ → List ℕ) : Type 0 where
+  readings-made : (l : List ℕ) (m : M) → readings (made l m) ≡ l
+  meaning-made : (l : List ℕ) (m : M) → meaning (made l m) ≡ m
+  read-of : (block : List ℕ) → read_of block ≡ result_map_both (made (take first block)) (λ (r : Refusal). r) (answer_of block)
+  read-for : (block old : List ℕ) → read_for block old ≡ cond (eqb (length old) count) (answer_of block) (Err Length)
+  said-number : (m : M) → number (Ok m) ≡ 0
+  refused-number : (r : Refusal) → number (Err r) ≡ refusal_answer r
+  said-after : (m : M) (block old : List ℕ) → after (Ok m) block old ≡ said (take first block) m
+  refused-after : (r : Refusal) (block old : List ℕ) → after (Err r) block old ≡ old
   bounded : (block : List ℕ) → number (answer_of block) < bound
 
 -- the bound holds of a choice where it holds of both
@@ -41,39 +44,47 @@ either number true x y hx hy = hx
 either number false x y hx hy = hy
 
 pub ir-reader :
-    Reader ir.Block ir.Refused (λ (r : IrRead). r.answer) (λ (r : IrRead). r.readings) ir_read_of ir_answer_of ir_numbers ir_read_for ir_answer ir_said_numbers ir_numbers_after
-unfolding ir_read_of ir_readings_of ir_read_for ir_answer ir_numbers_after ir_answer_of ir_judged refusal_answer
+    Reader ir_block (λ (b : IrBlock). b.readings) (λ (b : IrBlock). b.meaning) ir_readings ir_read_of ir_answer_of ir_numbers ir_read_for ir_answer ir_said_numbers ir_numbers_after
+unfolding ir_read_of ir_read_for ir_answer ir_numbers_after ir_answer_of ir_judged refusal_answer
 ir-reader =
     record {
-      read_answer = λ block. refl;
+      readings-made = λ l m. refl;
+      meaning-made = λ l m. refl;
+      read-of = λ block. refl;
       read-for = λ block old. refl;
-      says-number = λ m. refl;
+      said-number = λ m. refl;
       refused-number = λ r. refl;
-      says-after = λ m block old e. rw e;
+      said-after = λ m block old. refl;
       refused-after = λ r block old. refl;
       bounded = λ block. search (either ir_answer, lit<) depth 20;
     }
 
 pub ccd-reader :
-    Reader ccd.Block ccd.Refused (λ (r : CcdRead). r.answer) (λ (r : CcdRead). r.readings) ccd_read_of ccd_answer_of ccd_numbers ccd_read_for ccd_answer ccd_said_numbers ccd_numbers_after
-unfolding ccd_read_of ccd_readings_of ccd_read_for ccd_answer ccd_numbers_after ccd_answer_of ccd_judged ccd_rest_judged refusal_answer
+    Reader ccd_block (λ (b : CcdBlock). b.readings) (λ (b : CcdBlock). b.meaning) ccd_readings ccd_read_of ccd_answer_of ccd_numbers ccd_read_for ccd_answer ccd_said_numbers ccd_numbers_after
+unfolding ccd_read_of ccd_read_for ccd_answer ccd_numbers_after ccd_answer_of ccd_judged ccd_rest_judged refusal_answer
 ccd-reader =
     record {
-      read_answer = λ block. refl;
+      readings-made = λ l m. refl;
+      meaning-made = λ l m. refl;
+      read-of = λ block. refl;
       read-for = λ block old. refl;
-      says-number = λ m. refl;
+      said-number = λ m. refl;
       refused-number = λ r. refl;
-      says-after = λ m block old e. rw e;
+      said-after = λ m block old. refl;
       refused-after = λ r block old. refl;
       bounded = λ block. search (either ccd_answer, lit<) depth 30;
     }
 
-module _ {M A R : Type 0} {says : M → A} {refused : Refusal → A} {answer : R → A} {readings : R → List ℕ} {read_of : List ℕ → R}
-    {answer_of : List ℕ → A} {count : ℕ} {read_for : List ℕ → List ℕ → A} {number : A → ℕ} {said : List ℕ → M → List ℕ}
-    {after : A → List ℕ → List ℕ → List ℕ} (c : Reader says refused answer readings read_of answer_of count read_for number said after)
-    (block old : List ℕ) where
+refusal_of : {M R : Type 0} (made : M → R) (a : Result M Refusal) (f : Refusal) → result_map_both made (λ (r : Refusal). r) a ≡ Err f → a ≡ Err f
+refusal_of made (Ok m) f e = absurd cc
+refusal_of made (Err r) f e = cc
+
+module _ {M R : Type 0} {made : List ℕ → M → R} {readings : R → List ℕ} {meaning : R → M} {first : ℕ} {read_of : List ℕ → Result R Refusal}
+    {answer_of : List ℕ → Result M Refusal} {count : ℕ} {read_for : List ℕ → List ℕ → Result M Refusal} {number : Result M Refusal → ℕ}
+    {said : List ℕ → M → List ℕ} {after : Result M Refusal → List ℕ → List ℕ → List ℕ}
+    (c : Reader made readings meaning first read_of answer_of count read_for number said after) (block old : List ℕ) where
   module _ (short : length old ≡ count → ⊥) where
-    unfit : read_for block old ≡ refused Length
+    unfit : read_for block old ≡ Err Length
     unfit = c.read-for block old ∙ rw (ne_eqb (length old) count short)
 
     pub unfit-answer : (r : ℕ) → r ≡ refusal_number Length → r ≡ number (read_for block old)
@@ -83,30 +94,39 @@ module _ {M A R : Type 0} {says : M → A} {refused : Refusal → A} {answer : R
     pub unfit-left : old ≡ after (read_for block old) block old
     unfit-left = rw unfit (sym (c.refused-after Length block old))
 
-  module _ (read : R) (is : read ≡ read_of block) where
-    own : (a : A) → answer read ≡ a → answer_of block ≡ a
-    own a e = sym (c.read_answer block) ∙ ap answer (sym is) ∙ e
+  module _ (read : Result R Refusal) (is : read ≡ read_of block) where
+    module _ (f : Refusal) (e : read ≡ Err f) where
+      refused : answer_of block ≡ Err f
+      refused = refusal_of (made (take first block)) (answer_of block) f (sym (c.read-of block) ∙ sym is ∙ e)
 
-    pub place : (f : Refusal) → answer read ≡ refused f → refusal_place f ≤ most_place
-    unfolding refusal_answer
-    place f e =
-        let h : refusal_number f + 0x100 * refusal_place f < bound = rw (own (refused f) e, c.refused-number f) at (c.bounded block) in
-        omega arith
+      pub place : refusal_place f ≤ most_place
+      unfolding refusal_answer
+      place =
+          let h : refusal_number f + 0x100 * refusal_place f < bound = rw (refused, c.refused-number f) at (c.bounded block) in
+          omega arith
 
-    module _ (long : length old ≡ count) where
-      fit : (a : A) → answer read ≡ a → read_for block old ≡ a
-      fit a e = c.read-for block old ∙ rw (eq-eqb (length old) count long) (own a e)
+      module _ (long : length old ≡ count) where
+        refused-for : read_for block old ≡ Err f
+        refused-for = c.read-for block old ∙ rw (eq-eqb (length old) count long) refused
 
-      module _ (f : Refusal) (e : answer read ≡ refused f) where
         pub refused-answer : (r : ℕ) → r ≡ refusal_answer f → r ≡ number (read_for block old)
-        refused-answer r an = rw (fit (refused f) e, c.refused-number f) an
+        refused-answer r an = rw (refused-for, c.refused-number f) an
 
         pub refused-left : old ≡ after (read_for block old) block old
-        refused-left = rw (fit (refused f) e) (sym (c.refused-after f block old))
+        refused-left = rw refused-for (sym (c.refused-after f block old))
 
-      module _ (m : M) (e : answer read ≡ says m) where
-        pub said-answer : 0 ≡ number (read_for block old)
-        said-answer = rw (fit (says m) e) (sym (c.says-number m))
+    module _ (b : R) (e : read ≡ Ok b) (long : length old ≡ count) where
+      told : (m : M) × (answer_of block ≡ Ok m) × (made (take first block) m ≡ b)
+      told = made_of (made (take first block)) (answer_of block) b (sym (c.read-of block) ∙ sym is ∙ e)
 
-        pub said-left : (l : List ℕ) → l ≡ said (readings read) m → l ≡ after (read_for block old) block old
-        said-left l an = rw (fit (says m) e, c.says-after m block old (own (says m) e), ← is) an
+      said-for : read_for block old ≡ Ok told.0
+      said-for = c.read-for block old ∙ rw (eq-eqb (length old) count long) told.1
+
+      pub said-answer : 0 ≡ number (read_for block old)
+      said-answer = rw said-for (sym (c.said-number told.0))
+
+      pub said-left : (l : List ℕ) → l ≡ said (readings b) (meaning b) → l ≡ after (read_for block old) block old
+      said-left l an =
+          let rs : readings b ≡ take first block = ap readings (sym told.2) ∙ c.readings-made (take first block) told.0 in
+          let ms : meaning b ≡ told.0 = ap meaning (sym told.2) ∙ c.meaning-made (take first block) told.0 in
+          rw (said-for, c.said-after told.0 block old) (rw (rs, ms) at an)

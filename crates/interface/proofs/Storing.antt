@@ -1,15 +1,13 @@
 -- Numbers stored one after another in an array.
 -- Assumes nothing.
-use mathlib.Core.Path.{◌≡◌, refl, sym, ◌∙◌, ap}
+use mathlib.Core.Path.{◌≡◌, refl, sym, ◌∙◌, ap, subst}
 use mathlib.Core.List.{List, [], ◌∷◌, ◌++◌, append_assoc, append-nil}
-use Prim.Native.Nat.{ℕ, zero, suc, ◌+◌, ◌<◌, ◌≤◌}
-use native.Mathlib.Nat.{add-suc}
+use Prim.Native.Nat.{ℕ, zero, suc, ◌+◌, ◌-◌, ◌≤◌}
 use native.Mathlib.Numerals.{add-one}
 use native.Mathlib.Omega.{arith}
-use lib.ListN.{length, get_or, drop, set, drop_of_length-le, length-append, length-drop}
-use Rattle.head.specs.Row.{places, numbers_of}
-use Rattle.head.specs.declared.state.Head.{Head}
-use lib.Seq.{drop-cons, sets, append_snoc, set-append_seam}
+use lib.ListN.{length, get_or, take, drop, drop_of_length-le, length-append, length-drop, length-take, take-append-drop}
+use lib.Seq.{sets, append_snoc, set-append_seam}
+use borrow.Rule.Slice.PartMut.{put_mid}
 
 -- a list by its n elements from place k on
 abbrev pub elements : ℕ → ℕ → List ℕ → List ℕ
@@ -27,17 +25,6 @@ elements-all (x ∷ l) = ap (λ (r : List ℕ). x ∷ r) (elements-cons (length 
 pub listed : (l : List ℕ) (n : ℕ) → length l ≡ n → l ≡ elements n 0 l
 listed l n h = rw (← h) (sym (elements-all l))
 
--- the loop of `put`, with i numbers stored: one number more, and no number left
-module _ (whole l ns : List ℕ) (at i : ℕ) (left : whole ≡ sets l (at + i) (drop i ns)) where
-  pub put-more : i < length ns → whole ≡ sets (set l (at + i) (get_or ns i 0)) (at + (i + 1)) (drop (i + 1) ns)
-  put-more h = left ∙ rw (add-one i, drop-cons ns i 0 h, add-suc at i)
-
-  pub put_all : length ns ≤ i → l ≡ whole
-  put_all h = sym (left ∙ rw (drop_of_length-le ns h))
-
-pub put-these : (all l ns ms : List ℕ) (at : ℕ) → all ≡ sets l at ns → ns ≡ ms → all ≡ sets l at ms
-put-these all l ns ms at e is = e ∙ rw is
-
 -- numbers stored after a front, and in all of an array
 sets-after : (vs p q : List ℕ) → length vs ≤ length q → sets (p ++ q) (length p) vs ≡ p ++ (vs ++ drop (length vs) q)
 sets-after [] p q h = refl
@@ -47,14 +34,13 @@ sets-after (v ∷ vs) p (y ∷ ys) h =
     rw (set-append_seam p y ys v, ← append_snoc p v ys, ← one, sets-after vs (p ++ (v ∷ [])) ys (omega arith))
     (append_snoc p v (vs ++ drop (length vs) ys))
 
-pub sets-whole : (after l vs ws : List ℕ) → after ≡ sets l 0 ws → ws ≡ vs → length vs ≡ length l → after ≡ vs
-sets-whole after l vs ws e is h =
-    e ∙ rw is (sets-after vs [] l (omega arith) ∙ rw (drop_of_length-le l {i = length vs} (omega arith), append-nil vs))
-
--- a state's numbers fill an array of as many places
-pub stored : (after l ws : List ℕ) (s : Head) → after ≡ sets l 0 ws → ws ≡ numbers_of s → length l ≡ places → after ≡ numbers_of s
-unfolding numbers_of
-stored after l ws s e is h = sets-whole after l (numbers_of s) ws e is (sym h)
+-- a copy into a part of an array
+pub put-copied : (l ns : List ℕ) (at : ℕ) (c : List ℕ) → c ≡ ns → at + length ns ≤ length l
+    → put_mid at (at + length ns - at) l c ≡ sets l at ns
+put-copied l ns at c e h =
+    let front : length (take at l) ≡ at = simp length-take (omega arith) in
+    let few : at + length ns - at ≡ length ns = omega arith in
+    rw (few, e) (sym (subst (λ (x : List ℕ). sets x at ns ≡ take at l ++ (ns ++ drop (length ns) (drop at l))) (take-append-drop at l) (rw front at (sets-after ns (take at l) (drop at l) (simp length-drop (omega arith))))))
 
 -- three groups one after another fill an array that has room for just these
 three : (l a b c : List ℕ) → length l ≡ length a + length b + length c

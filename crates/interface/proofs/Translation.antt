@@ -17,9 +17,11 @@ use Rattle.plan.specs.Stored.{Plan, orders, refused, byte_at, pair_at, order_at,
 use Rattle.plan.proofs.Accepted.{AllFit, accepted-fit, accepted-few}
 use Rattle.schedule.specs.Clock.{latest}
 use Rattle.schedule.specs.Schedule.{Schedule, schedule_from}
-use Rattle.schedule.specs.Translate.{fit, most_words, schedule_of, answer_of_plan, translate_of, filled, word_list, tick_list, translated_number}
-use Rattle.schedule.specs.declared.Translated.{Translated}
-use Rattle.schedule.specs.declared.Translated.TheVariants.{Done, Refused, Short}
+use Rattle.schedule.specs.Translate.{fit, most_words, schedule_of, answer_of_plan, translate_of, filled, word_list, tick_list}
+use Rattle.std.specs.Prelude.{Result, Ok, Err}
+use Rattle.schedule.specs.declared.Translation.{Translation}
+use Rattle.schedule.specs.declared.TranslateError.{TranslateError}
+use Rattle.schedule.specs.Translate.{translate_error_number, translate_error_place}
 use Rattle.schedule.proofs.Plans.{plan-count, plan-end}
 use Rattle.head.specs.Row.{state_of}
 use Rattle.interface.specs.State.{well_formed}
@@ -83,7 +85,7 @@ module _ (bs : List ℕ) (high : byte_at bs 1 < 256) (low : byte_at bs 2 < 256) 
         few : length os ≤ most_orders
         few = accepted-few bs os e
 
-        go : (x : Bool) → length sch.list ≤ most_words → sch.end ≤ latest → Small (cond x (Done (length sch.list) sch.end) (Short (length sch.list)))
+        go : (x : Bool) → length sch.list ≤ most_words → sch.end ≤ latest → Small (cond x (Ok (record { count = length sch.list; end = sch.end })) (Err (TranslateError.Short (length sch.list))))
         go true n m = (omega arith, omega arith)
         go false n m = (omega arith, omega arith)
 
@@ -91,54 +93,55 @@ module _ (bs : List ℕ) (high : byte_at bs 1 < 256) (low : byte_at bs 2 < 256) 
     unfolding translate_of count_in last_in
     translate-small = go (fit s) refl
       where
-        go : (f : Bool) → fit s ≡ f → Small (cond f (answer_of_plan (plan_of bs) (schedule_of s (plan_of bs)) a b) (Refused 1 0))
+        go : (f : Bool) → fit s ≡ f → Small (cond f (answer_of_plan (plan_of bs) (schedule_of s (plan_of bs)) a b) (Err TranslateError.StateUnfit))
         go true ok = plan-small ok (plan_of bs) refl
         go false ok = (omega arith, omega arith)
 
--- the ways through `translated_number`: r is what is answered
-module _ (t : Translated) (small : Small t) (n m : ℕ) where
-  pub done-count : t ≡ Done n m → n < 2 ^ 16
+-- the ways through `translated_number`
+module _ (t : Result Translation TranslateError) (small : Small t) where
+  pub done-count : {m : Translation} → t ≡ Ok m → m.count < 2 ^ 16
   unfolding count_in
   done-count e = rw e at small.0
 
-  pub refused-place : t ≡ Refused n m → m < 2 ^ 32
+  pub done-end : {m : Translation} → t ≡ Ok m → m.end < 2 ^ 32
   unfolding last_in
-  refused-place e = rw e at small.1
+  done-end e = rw e at small.1
 
-  pub short-count : t ≡ Short n → n < 2 ^ 16
-  unfolding count_in
-  short-count e = rw e at small.0
+  module _ {f : TranslateError} (e : t ≡ Err f) where
+    pub refused-count : {n : ℕ} → n ≡ count_in (Err f) → n < 2 ^ 16
+    refused-count is = rw is (rw e at small.0)
 
--- x is the answer's own number
-module _ (t : Translated) (x r n m : ℕ) (own : x ≡ translated_number t) where
-  pub done-answer : t ≡ Done n m → r ≡ packed x n m → r ≡ translated_answer t
+    pub refused-place : {p : ℕ} → p ≡ translate_error_place f → p < 2 ^ 32
+    unfolding last_in
+    refused-place is = rw is (rw e at small.1)
+
+-- r is what is answered
+module _ (t : Result Translation TranslateError) (r : ℕ) where
+  pub done-answer : {m : Translation} → t ≡ Ok m → r ≡ packed 0 m.count m.end → r ≡ translated_answer t
   unfolding translated_answer count_in last_in
-  done-answer e is = is ∙ rw (own, e)
+  done-answer e is = is ∙ rw e
 
-  pub refused-answer : t ≡ Refused n m → r ≡ packed x 0 m → r ≡ translated_answer t
-  unfolding translated_answer count_in last_in
-  refused-answer e is = is ∙ rw (own, e)
-
-  pub short-answer : t ≡ Short n → r ≡ packed x n 0 → r ≡ translated_answer t
-  unfolding translated_answer count_in last_in
-  short-answer e is = is ∙ rw (own, e)
+  pub refused-answer : {f : TranslateError} → t ≡ Err f → {x n p : ℕ} → x ≡ translate_error_number f → n ≡ count_in (Err f)
+      → p ≡ translate_error_place f → r ≡ packed x n p → r ≡ translated_answer t
+  unfolding translated_answer last_in
+  refused-answer e own count place is = is ∙ rw (own, count, place, e)
 
 -- the ways through the exported function: l is the state's array, i what `well_formed` answered, a and b the buffers' lengths
 module _ (l bs : List ℕ) (a b : ℕ) (i : Bool) (is : i ≡ well_formed l) where
   module _ (bad : not i ≡ true) where
-    ill : translated_of l bs a b ≡ Refused 1 0
+    ill : translated_of l bs a b ≡ Err TranslateError.StateUnfit
     unfolding translated_of
     ill = rw (sym is ∙ not-true i bad)
 
-    pub translate-ill : 1 ≡ translated_answer (translated_of l bs a b)
+    pub translate-ill : (r : ℕ) → r ≡ translate_error_number TranslateError.StateUnfit → r ≡ translated_answer (translated_of l bs a b)
     unfolding translated_answer count_in last_in
-    translate-ill = rw ill
+    translate-ill r is = rw (ill, is)
 
     pub translate-ill-left : (old values : List ℕ) → old ≡ filled (translated_of l bs a b) values old
     unfolding filled
     translate-ill-left old values = rw ill
 
-  module _ (good : not i ≡ false) (h : Head) (loaded : h ≡ state_of l) (t : Translated) (translated : t ≡ translate_of h bs a b) where
+  module _ (good : not i ≡ false) (h : Head) (loaded : h ≡ state_of l) (t : Result Translation TranslateError) (translated : t ≡ translate_of h bs a b) where
     given : t ≡ translated_of l bs a b
     unfolding translated_of
     given = rw (sym is ∙ not-false i good, ← loaded) translated

@@ -11,14 +11,18 @@ use Rattle.head.specs.Range.{in_range}
 use Rattle.head.specs.Word.{answer_of}
 use Rattle.head.specs.Tick.{tick_of}
 use Rattle.head.specs.Numbers.{cause_number, outcome_number}
-use Rattle.head.specs.List.{numbers_listed, list_of, outcomes_after, list_answer_number}
+use Rattle.head.specs.List.{numbers_listed, list_of, outcomes_after, list_error_number, list_answer_number}
 use Rattle.head.specs.declared.state.Head.{Head}
 use Rattle.head.specs.declared.word.Cause.TheVariants.{State}
 use Rattle.head.specs.declared.word.Answered.{Answered}
 use Rattle.head.specs.declared.tick.Ticked.{Ticked}
+use Rattle.head.specs.declared.word.Outcome.{Outcome}
 use Rattle.head.specs.declared.list.Listed.{Listed}
+use Rattle.head.specs.declared.list.ListError.{ListError}
+use Rattle.operators.specs.declared.PassError.{PassError}
+use Rattle.std.specs.Prelude.{Ok, Err}
 use Rattle.head.specs.Row.{places, numbers_of, state_of}
-use Rattle.operators.specs.Passing.{passed_on, passing_number}
+use Rattle.operators.specs.Passing.{passed_on, pass_error_number, passing_number}
 use Rattle.operators.specs.declared.PassedOn.{PassedOn}
 use Rattle.interface.specs.State.{well_formed, valid}
 use Rattle.interface.specs.Stepping.{power_on_answer, power_on_state, range_answer, word_answer, word_state, due_answer, tick_answer, tick_state, list_answer, list_state, list_outcomes}
@@ -119,9 +123,17 @@ module _ (l : List ℕ) (i : Bool) (is : i ≡ well_formed l) where
         word-state after own = rw (well, ← loaded, ← e) own
 
       module _ (g w : ℕ) (p : PassedOn) (e : p ≡ passed_on h g w) where
-        pub pass-on-answer : (r : ℕ) → r ≡ passing_number p.passing → r ≡ pass_on_answer l g w
+        pass-on-number : (r : ℕ) → r ≡ passing_number p.passing → r ≡ pass_on_answer l g w
         unfolding pass_on_answer
-        pass-on-answer r own = rw (well, ← loaded, ← e) own
+        pass-on-number r own = rw (well, ← loaded, ← e) own
+
+        pub passed-answer : {o : Outcome} → p.passing ≡ Ok o → (r : ℕ) → r ≡ outcome_number o → r ≡ pass_on_answer l g w
+        unfolding passing_number
+        passed-answer passed r own = pass-on-number r (rw passed own)
+
+        pub not-passed-answer : {f : PassError} → p.passing ≡ Err f → (r : ℕ) → r ≡ pass_error_number f → r ≡ pass_on_answer l g w
+        unfolding passing_number
+        not-passed-answer refused r own = pass-on-number r (rw refused own)
 
         pub pass-on-state : (after : List ℕ) → after ≡ numbers_of p.head → after ≡ pass_on_state l g w
         unfolding pass_on_state
@@ -137,9 +149,17 @@ module _ (l : List ℕ) (i : Bool) (is : i ≡ well_formed l) where
         tick-state after own = rw (well, ← loaded, ← e) own
 
       module _ (ws ts old : List ℕ) (a : Listed) (e : a ≡ list_of h ws ts (length old)) where
-        pub list-answer : (r : ℕ) → r ≡ list_answer_number a.answer → r ≡ list_answer l ws ts (length old)
+        list-number : (r : ℕ) → r ≡ list_answer_number a.answer → r ≡ list_answer l ws ts (length old)
         unfolding list_answer
-        list-answer r own = rw (well, ← loaded, ← e) own
+        list-number r own = rw (well, ← loaded, ← e) own
+
+        pub list-given : {u : Unit {0}} → a.answer ≡ Ok u → 0 ≡ list_answer l ws ts (length old)
+        unfolding list_answer_number
+        list-given given = list-number 0 (rw given)
+
+        pub list-refused : {f : ListError} → a.answer ≡ Err f → (r : ℕ) → r ≡ list_error_number f → r ≡ list_answer l ws ts (length old)
+        unfolding list_answer_number
+        list-refused refused r own = list-number r (rw refused own)
 
         pub list-state : (after : List ℕ) → after ≡ numbers_of a.head → after ≡ list_state l ws ts (length old)
         unfolding list_state

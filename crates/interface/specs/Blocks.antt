@@ -1,6 +1,6 @@
 -- What the exported writers and readers of the two blocks answer, and the arrays that they leave.
 -- Assumes nothing.
-use Rattle.std.specs.Prelude.{ℕ, ◌+◌, ◌*◌, ◌/◌, ◌%◌, Bool, cond, List, [], ◌∷◌, ◌++◌, eqb, length, take}
+use Rattle.std.specs.Prelude.{ℕ, ◌+◌, ◌*◌, ◌/◌, ◌%◌, Bool, cond, List, [], ◌∷◌, ◌++◌, eqb, length, take, Result, Ok, Err}
 use Rattle.head.specs.declared.state.Flags.{Flags}
 use Rattle.status.specs.declared.IrFlags.{IrFlags}
 use Rattle.status.specs.declared.VisFlags.{VisFlags}
@@ -10,16 +10,10 @@ use Rattle.blocks.specs.Ir.{ir_readings, ir_block_of, ir_answer_of}
 use Rattle.blocks.specs.Ccd.{ccd_readings, ccd_block_of, ccd_answer_of}
 use Rattle.blocks.specs.declared.refusal.Refusal.{Refusal}
 use Rattle.blocks.specs.declared.refusal.Refusal.TheVariants.{Length}
-use Rattle.blocks.specs.declared.written.Written.{Written}
-use Rattle.blocks.specs.declared.written.Written.TheVariants as written
 use Rattle.blocks.specs.declared.ir.IrBits.{IrBits}
 use Rattle.blocks.specs.declared.ir.IrMeaning.{IrMeaning}
-use Rattle.blocks.specs.declared.ir.IrAnswer.{IrAnswer}
-use Rattle.blocks.specs.declared.ir.IrAnswer.TheVariants as ir
 use Rattle.blocks.specs.declared.ccd.CcdBits.{CcdBits}
 use Rattle.blocks.specs.declared.ccd.CcdMeaning.{CcdMeaning}
-use Rattle.blocks.specs.declared.ccd.CcdAnswer.{CcdAnswer}
-use Rattle.blocks.specs.declared.ccd.CcdAnswer.TheVariants as ccd
 use Rattle.head.specs.Row.{state_of}
 use Rattle.interface.specs.State.{bit_of, valid}
 
@@ -40,11 +34,11 @@ abbrev pub ccd_bits_in : ℕ → CcdBits
 ccd_bits_in n = record { latchup = odd n }
 
 -- 11 where there are not so many readings or the buffer has not the block's n words, then 21.
-unfoldable pub block_written : ℕ → ℕ → List ℕ → List ℕ → List ℕ → Written
+unfoldable pub block_written : ℕ → ℕ → List ℕ → List ℕ → List ℕ → Result (Unit {0}) Refusal
 block_written n count l readings buffer =
     cond (eqb (length readings) count)
     (written_if n (valid l) buffer)
-    (written.Refused Length)
+    (Err Length)
 
 -- An acquisition ended where ended is 1.
 unfoldable pub ir_block_for : List ℕ → ℕ → ℕ → ℕ → List ℕ → List ℕ
@@ -115,29 +109,29 @@ ccd_numbers = 30
 unfoldable pub refusal_answer : Refusal → ℕ
 refusal_answer r = refusal_number r + 0x100 * refusal_place r
 
-unfoldable pub ir_answer : IrAnswer → ℕ
-ir_answer (ir.Block m) = 0
-ir_answer (ir.Refused r) = refusal_answer r
+unfoldable pub ir_answer : Result IrMeaning Refusal → ℕ
+ir_answer (Ok m) = 0
+ir_answer (Err r) = refusal_answer r
 
-unfoldable pub ccd_answer : CcdAnswer → ℕ
-ccd_answer (ccd.Block m) = 0
-ccd_answer (ccd.Refused r) = refusal_answer r
+unfoldable pub ccd_answer : Result CcdMeaning Refusal → ℕ
+ccd_answer (Ok m) = 0
+ccd_answer (Err r) = refusal_answer r
 
 -- A refusal leaves the numbers as they were.
-unfoldable pub ir_numbers_after : IrAnswer → List ℕ → List ℕ → List ℕ
-ir_numbers_after (ir.Block m) block old = ir_said_numbers (take ir_readings block) m
-ir_numbers_after (ir.Refused r) block old = old
+unfoldable pub ir_numbers_after : Result IrMeaning Refusal → List ℕ → List ℕ → List ℕ
+ir_numbers_after (Ok m) block old = ir_said_numbers (take ir_readings block) m
+ir_numbers_after (Err r) block old = old
 
-unfoldable pub ccd_numbers_after : CcdAnswer → List ℕ → List ℕ → List ℕ
-ccd_numbers_after (ccd.Block m) block old = ccd_said_numbers (take ccd_readings block) m
-ccd_numbers_after (ccd.Refused r) block old = old
+unfoldable pub ccd_numbers_after : Result CcdMeaning Refusal → List ℕ → List ℕ → List ℕ
+ccd_numbers_after (Ok m) block old = ccd_said_numbers (take ccd_readings block) m
+ccd_numbers_after (Err r) block old = old
 
 -- 11 where the array for the numbers has not their length; else the block decides.
-unfoldable pub ir_read_for : List ℕ → List ℕ → IrAnswer
-ir_read_for block old = cond (eqb (length old) ir_numbers) (ir_answer_of block) (ir.Refused Length)
+unfoldable pub ir_read_for : List ℕ → List ℕ → Result IrMeaning Refusal
+ir_read_for block old = cond (eqb (length old) ir_numbers) (ir_answer_of block) (Err Length)
 
-unfoldable pub ccd_read_for : List ℕ → List ℕ → CcdAnswer
-ccd_read_for block old = cond (eqb (length old) ccd_numbers) (ccd_answer_of block) (ccd.Refused Length)
+unfoldable pub ccd_read_for : List ℕ → List ℕ → Result CcdMeaning Refusal
+ccd_read_for block old = cond (eqb (length old) ccd_numbers) (ccd_answer_of block) (Err Length)
 
 -- The place of a refused block's word is one of the block's 25 at most.
 abbrev pub most_place : ℕ

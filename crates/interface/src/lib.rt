@@ -23,11 +23,11 @@ ghost use Rattle.interface.specs.Plans.{translated_of, translated_answer};
 ghost use Rattle.interface.specs.Stepping.{power_on_answer, power_on_state, range_answer, word_answer, word_state, tick_answer, tick_state, list_answer, list_state, list_outcomes};
 ghost use Rattle.interface.specs.Codec.{decoded_answer, encoded_answer};
 
-use blocks::ccd::{CCD_READINGS, CCD_WORDS, CcdAnswer, read_ccd, write_ccd};
-use blocks::ir::{IR_READINGS, IR_WORDS, IrAnswer, read_ir, write_ir};
-use blocks::refusal::Refusal;
+use blocks::ccd::{CCD_READINGS, CCD_WORDS, read_ccd, write_ccd};
+use blocks::ir::{IR_READINGS, IR_WORDS, read_ir, write_ir};
+use blocks::refusal::{Refusal, number_of};
 use head::state::Head;
-use schedule::STATE_UNFIT;
+use schedule::TranslateError;
 use schedule::translate::translate;
 use state::PLACES;
 use words::upper_byte::decode_by_byte;
@@ -94,9 +94,11 @@ pub fn shabgozim_list(state: &mut [u16], words: &[u16], ticks: &[u32], outcomes:
         return answers::state_refused();
     }
     let listed = state::load(state).list(words, ticks, outcomes);
-    let answer = listed.answer;
     state::store(state, listed.head);
-    answer.number() as u32
+    match listed.answer {
+        Ok(()) => 0,
+        Err(error) => u32::from(error.number()),
+    }
 }
 
 pub fn shabgozim_decode(word: u16) -> u32
@@ -125,7 +127,7 @@ pub fn shabgozim_translate(state: &[u16], plan: &[u8], words: &mut [u16], ticks:
     ensures ticks_after { ticks.new ≡ filled (translated_of state.now plan.now (length words.old) (length ticks.old)) (tick_list (schedule_of (state_of state.now) (plan_of plan.now))) ticks.old }
 {
     if !state::well_formed(state) {
-        return STATE_UNFIT as u64;
+        return u64::from(TranslateError::StateUnfit.number());
     }
     let translated = translate(state::load(state), plan, words, ticks);
     answers::translated_number(translated)
@@ -144,19 +146,20 @@ pub fn shabgozim_write_ir(
     ensures block_after { block.new ≡ buffer_after (block_written ir_words ir_readings state.now readings.now block.old) (ir_block_for state.now flags ended bits readings.now) block.old }
 {
     if readings.len() != IR_READINGS {
-        return Refusal::Length.number() as u32;
+        return u32::from(Refusal::Length.number());
     }
     if block.len() != IR_WORDS {
-        return Refusal::Length.number() as u32;
+        return u32::from(Refusal::Length.number());
     }
     if !state::well_formed(state) {
-        return Refusal::State.number() as u32;
+        return u32::from(Refusal::State.number());
     }
     let head = state::load(state);
     let shown = readings::flags_in(flags);
-    let given = readings::ir_readings(readings);
+    let given = readings::readings(readings);
     let said = readings::ir_bits_in(bits);
-    write_ir(head, shown, ended == 1, given, said, block).number() as u32
+    let written = write_ir(head, shown, ended == 1, given, said, block);
+    u32::from(number_of(&written))
 }
 
 // Writes the CCD block of a state.
@@ -172,19 +175,20 @@ pub fn shabgozim_write_ccd(
     ensures block_after { block.new ≡ buffer_after (block_written ccd_words ccd_readings state.now readings.now block.old) (ccd_block_for state.now flags ended bits readings.now) block.old }
 {
     if readings.len() != CCD_READINGS {
-        return Refusal::Length.number() as u32;
+        return u32::from(Refusal::Length.number());
     }
     if block.len() != CCD_WORDS {
-        return Refusal::Length.number() as u32;
+        return u32::from(Refusal::Length.number());
     }
     if !state::well_formed(state) {
-        return Refusal::State.number() as u32;
+        return u32::from(Refusal::State.number());
     }
     let head = state::load(state);
     let shown = readings::flags_in(flags);
-    let given = readings::ccd_readings(readings);
+    let given = readings::readings(readings);
     let said = readings::ccd_bits_in(bits);
-    write_ccd(head, shown, ended == 1, given, said, block).number() as u32
+    let written = write_ccd(head, shown, ended == 1, given, said, block);
+    u32::from(number_of(&written))
 }
 
 // Reads an IR block into numbers.
@@ -193,17 +197,14 @@ pub fn shabgozim_read_ir(block: &[u16], numbers: &mut [u16]) -> u32
     ensures numbers_after { numbers.new ≡ ir_numbers_after (ir_read_for block.now numbers.old) block.now numbers.old }
 {
     if numbers.len() != readings::IR_NUMBERS {
-        return Refusal::Length.number() as u32;
+        return u32::from(Refusal::Length.number());
     }
-    let read = read_ir(block);
-    let answer = read.answer;
-    let first = read.readings;
-    match answer {
-        IrAnswer::Block(meaning) => {
-            readings::put_ir(numbers, &first, meaning);
+    match read_ir(block) {
+        Ok(read) => {
+            readings::put_ir(numbers, &read.readings, read.meaning);
             0
         }
-        IrAnswer::Refused(refusal) => answers::refused_number(refusal),
+        Err(refusal) => answers::refused_number(refusal),
     }
 }
 
@@ -213,16 +214,13 @@ pub fn shabgozim_read_ccd(block: &[u16], numbers: &mut [u16]) -> u32
     ensures numbers_after { numbers.new ≡ ccd_numbers_after (ccd_read_for block.now numbers.old) block.now numbers.old }
 {
     if numbers.len() != readings::CCD_NUMBERS {
-        return Refusal::Length.number() as u32;
+        return u32::from(Refusal::Length.number());
     }
-    let read = read_ccd(block);
-    let answer = read.answer;
-    let first = read.readings;
-    match answer {
-        CcdAnswer::Block(meaning) => {
-            readings::put_ccd(numbers, &first, meaning);
+    match read_ccd(block) {
+        Ok(read) => {
+            readings::put_ccd(numbers, &read.readings, read.meaning);
             0
         }
-        CcdAnswer::Refused(refusal) => answers::refused_number(refusal),
+        Err(refusal) => answers::refused_number(refusal),
     }
 }

@@ -1,30 +1,37 @@
 // The C interface of the high-resolution head: its requests and its pixel map.
-ghost use Rattle.std.specs.Prelude.{◌≡◌, ◌<◌, ◌^◌};
-ghost use Rattle.pixels.specs.Measured.{measured_value, lighted_of, readout_of};
+ghost use Rattle.std.specs.Prelude.{◌≡◌};
+ghost use Rattle.pixels.specs.Measured.{lighted_of, readout_of};
 ghost use Rattle.requests.specs.Codec.{decode_of, encode_of};
 ghost use Rattle.interface.specs.PemH.{measured_answer, meaning_answer, request_answer};
 
-use pixels::{Measured, lighted, readout};
-use requests::{Encoded, Meaning};
+use pixels::{MapError, lighted, readout};
+use requests::{Meaning, RequestError};
 
-fn measured_number(found: Measured) -> u32
-    requires { measured_value found < 2 ^ 24 }
+fn measured_number(found: Result<u32, MapError>) -> u32
     ensures { result ≡ measured_answer found }
 {
-    found.number() as u32 * 0x1000000 + found.value()
+    match found {
+        Ok(value) => value,
+        Err(error) => u32::from(error.number()) * 0x1000000,
+    }
 }
 
-fn meaning_number(found: Meaning) -> u32
+fn meaning_number(found: Result<Meaning, RequestError>) -> u32
     ensures { result ≡ meaning_answer found }
 {
-    let number = found.number() as u32 * 0x1000000;
-    number + found.request() as u32 * 0x10000 + found.value() as u32
+    match found {
+        Ok(meaning) => u32::from(meaning.request()) * 0x10000 + u32::from(meaning.value()),
+        Err(error) => u32::from(error.number()) * 0x1000000,
+    }
 }
 
-fn request_number(made: Encoded) -> u32
+fn request_number(made: Result<u16, RequestError>) -> u32
     ensures { result ≡ request_answer made }
 {
-    made.number() as u32 * 0x1000000 + made.word() as u32
+    match made {
+        Ok(word) => u32::from(word),
+        Err(error) => u32::from(error.number()) * 0x1000000,
+    }
 }
 
 // The number of lighted pixels of a map.

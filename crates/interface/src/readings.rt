@@ -1,10 +1,8 @@
 // What crosses the interface for the two blocks: flags and bits in numbers, readings, and what a block says as numbers.
 ghost use Rattle.std.specs.Prelude.{◌≡◌, length};
-ghost use Rattle.blocks.specs.Ir.{ir_readings};
-ghost use Rattle.blocks.specs.Ccd.{ccd_readings};
 ghost use Rattle.interface.specs.Blocks.{flags_in, ir_bits_in, ccd_bits_in, ir_status_numbers, ir_flag_numbers, ccd_status_numbers, ccd_flag_numbers, ir_said_numbers, ccd_said_numbers, ir_numbers, ccd_numbers};
 
-use crate::state::{bit, put};
+use crate::state::put;
 use blocks::ccd::{CcdBits, CcdMeaning};
 use blocks::ir::{IrBits, IrMeaning};
 use head::state::Flags;
@@ -46,21 +44,12 @@ pub fn ccd_bits_in(n: u32) -> CcdBits
 }
 
 // The readings as an array.
-pub(crate) fn ir_readings(readings: &[u16]) -> [u16; 14]
-    requires { length readings.now ≡ ir_readings }
+pub(crate) fn readings<const N: usize>(readings: &[u16]) -> [u16; N]
+    requires { length readings.now ≡ N }
     ensures { result ≡ readings.now }
 {
-    let mut array = [0u16; 14];
-    put(&mut array, 0, readings);
-    array
-}
-
-pub(crate) fn ccd_readings(readings: &[u16]) -> [u16; 16]
-    requires { length readings.now ≡ ccd_readings }
-    ensures { result ≡ readings.now }
-{
-    let mut array = [0u16; 16];
-    put(&mut array, 0, readings);
+    let mut array = [0; N];
+    array.copy_from_slice(readings);
     array
 }
 
@@ -73,9 +62,9 @@ pub fn ir_status_numbers(meaning: IrMeaning) -> [u16; 7]
         meaning.delay,
         meaning.expo,
         lampshutter.lampcurrent,
-        bit(lampshutter.lampon),
+        u16::from(lampshutter.lampon),
         lampshutter.shuttercurrent,
-        bit(lampshutter.closed),
+        u16::from(lampshutter.closed),
     ]
 }
 
@@ -83,16 +72,16 @@ pub fn ir_flag_numbers(flags: IrFlags) -> [u16; 10]
     ensures { result ≡ ir_flag_numbers flags }
 {
     [
-        bit(flags.acquired),
-        bit(flags.time),
-        bit(flags.word),
-        bit(flags.scan),
-        bit(flags.detector),
-        bit(flags.latchup),
-        bit(flags.annealing),
-        bit(flags.opens),
-        bit(flags.notclosed),
-        bit(flags.notopen),
+        u16::from(flags.acquired),
+        u16::from(flags.time),
+        u16::from(flags.word),
+        u16::from(flags.scan),
+        u16::from(flags.detector),
+        u16::from(flags.latchup),
+        u16::from(flags.annealing),
+        u16::from(flags.opens),
+        u16::from(flags.notclosed),
+        u16::from(flags.notopen),
     ]
 }
 
@@ -109,7 +98,7 @@ pub fn ccd_status_numbers(meaning: CcdMeaning) -> [u16; 9]
         meaning.delay,
         meaning.expo,
         sine.magnitude,
-        bit(sine.negative),
+        u16::from(sine.negative),
         meaning.cosine,
     ]
 }
@@ -118,11 +107,11 @@ pub fn ccd_flag_numbers(flags: VisFlags) -> [u16; 5]
     ensures { result ≡ ccd_flag_numbers flags }
 {
     [
-        bit(flags.acquired),
-        bit(flags.time),
-        bit(flags.word),
-        bit(flags.latchup),
-        bit(flags.lampon),
+        u16::from(flags.acquired),
+        u16::from(flags.time),
+        u16::from(flags.word),
+        u16::from(flags.latchup),
+        u16::from(flags.lampon),
     ]
 }
 

@@ -1,18 +1,12 @@
 // A head's state as an array of 35 numbers.
 ghost use Rattle.std.specs.Prelude.{◌≡◌, ◌+◌, ◌≤◌, length};
 ghost use Rattle.std.proofs.lemmas.List.Edits.{sets};
-ghost use Rattle.head.specs.Row.{places, settings_of, numbers_of, state_of};
-ghost use Rattle.interface.specs.State.{head_of, stored_in, bit_of, well_formed};
+ghost use Rattle.head.specs.Row.{places, numbers_of, state_of};
+ghost use Rattle.interface.specs.State.{head_of, stored_in, well_formed};
 
 use head::state::{Begun, FlagBits, Head, Latches, Motion, Settings, Work};
 
 pub const PLACES: usize = 35;
-
-pub fn bit(b: bool) -> u16
-    ensures { result ≡ bit_of b }
-{
-    if b { 1 } else { 0 }
-}
 
 // Whether an array holds a state, in range or not.
 pub fn well_formed(s: &[u16]) -> bool
@@ -26,39 +20,8 @@ pub(crate) fn put(s: &mut [u16], at: usize, numbers: &[u16])
     requires { at + length numbers.now ≤ length s.old }
     ensures { s.new ≡ sets s.old at numbers.now }
 {
-    let mut i: usize = 0;
-    while i < numbers.len() {
-        s[at + i] = numbers[i];
-        i += 1;
-    }
-}
-
-fn settings_of(s: &[u16]) -> Settings
-    requires { length s.now ≡ places }
-    ensures { result ≡ settings_of s.now }
-{
-    Settings {
-        detector: s[0],
-        mode: s[1],
-        vdetcom: s[2],
-        vdetadj: s[3],
-        irdelay: s[4],
-        irexpo: s[5],
-        ccddelay: s[6],
-        ccdexpo: s[7],
-        x1: s[8],
-        y1: s[9],
-        x2: s[10],
-        y2: s[11],
-        ccdlamp: s[12],
-        irlamp: s[13],
-        shutter: s[14],
-        annealing: s[15],
-        sine: s[16],
-        cosine: s[17],
-        switch: s[18],
-        direction: s[19],
-    }
+    let end = at + numbers.len();
+    s[at..end].copy_from_slice(numbers);
 }
 
 pub(crate) fn load(s: &[u16]) -> Head
@@ -66,7 +29,10 @@ pub(crate) fn load(s: &[u16]) -> Head
     ensures { result ≡ state_of s.now }
 {
     Head {
-        settings: settings_of(s),
+        settings: Settings::from([
+            s[0], s[1], s[2], s[3], s[4], s[5], s[6], s[7], s[8], s[9], s[10], s[11], s[12], s[13],
+            s[14], s[15], s[16], s[17], s[18], s[19],
+        ]),
         latches: Latches {
             vdetcom: s[20],
             vdetadj: s[21],
@@ -99,8 +65,7 @@ pub(crate) fn store(s: &mut [u16], head: Head)
     requires { length s.old ≡ places }
     ensures { s.new ≡ numbers_of head }
 {
-    let row = head.numbers();
-    put(s, 0, &row);
+    s.copy_from_slice(&head.numbers());
 }
 
 // For other crates: the head that an array holds, and power-on where it has not 35 places.

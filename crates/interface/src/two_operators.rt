@@ -24,7 +24,7 @@ pub struct MergeAnswer {
 pub fn shabgozim_group(kind: u8) -> u32
     ensures { result ≡ group_of kind }
 {
-    group_of(kind) as u32
+    u32::from(group_of(kind))
 }
 
 // Passes an operator's word on to the head.
@@ -36,9 +36,11 @@ pub fn shabgozim_pass_on(state: &mut [u16], operator_group: u8, word: u16) -> u3
         return answers::state_refused();
     }
     let passed = pass_on(state::load(state), operator_group, word);
-    let passing = passed.passing;
     state::store(state, passed.head);
-    passing.number()
+    match passed.passing {
+        Ok(outcome) => outcome.number(),
+        Err(error) => u32::from(error.number()),
+    }
 }
 
 // Merges two lists by tick until one has run out.
@@ -48,8 +50,8 @@ pub fn shabgozim_merge(ccd: &[u64], infrared: &[u64], merged: &mut [u64]) -> Mer
 {
     let answer = merge_counted(ccd, infrared, merged);
     MergeAnswer {
-        number: answer.number as u32,
-        restof: answer.list as u32,
+        number: u32::from(answer.number),
+        restof: u32::from(answer.list),
         count: answer.count,
         reststart: answer.start,
     }

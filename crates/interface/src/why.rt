@@ -16,18 +16,18 @@ fn detail_bits(diagnosis: Diagnosis) -> u32
     match diagnosis {
         Diagnosis::Taken => 0,
         Diagnosis::StateOutOfRange => 0,
-        Diagnosis::HeadBusy(ticks) => 0x100 * ticks as u32,
-        Diagnosis::CoverMoves(ticks) => COVER_BIT + 0x100 * ticks as u32,
-        Diagnosis::UnknownIdentifier(word) => 0x100 * word as u32,
-        Diagnosis::DataOutOfRange { word, kind: _ } => 0x100 * word as u32,
-        Diagnosis::OutOfTurn { due } => 0x100 * due as u32,
+        Diagnosis::HeadBusy(ticks) => 0x100 * u32::from(ticks),
+        Diagnosis::CoverMoves(ticks) => COVER_BIT + 0x100 * u32::from(ticks),
+        Diagnosis::UnknownIdentifier(word) => 0x100 * u32::from(word),
+        Diagnosis::DataOutOfRange { word, kind: _ } => 0x100 * u32::from(word),
+        Diagnosis::OutOfTurn { due } => 0x100 * u32::from(due),
     }
 }
 
 pub fn packed_why(diagnosis: Diagnosis) -> u32
     ensures { result ≡ packed_why diagnosis }
 {
-    diagnosis.number() as u32 + detail_bits(diagnosis)
+    u32::from(diagnosis.number()) + detail_bits(diagnosis)
 }
 
 // What becomes of a word that the head in this state gets, and why.

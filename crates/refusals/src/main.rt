@@ -2,14 +2,14 @@
 #![tactic(auto)]
 
 use head::state::Head;
-use schedule::Translated;
 use schedule::translate::{MOST_WORDS, translate};
+use schedule::{TranslateError, Translation};
 use std::io;
 use text::lines::refusal_line;
 
-fn print_refusal(rt: &impl Print, answer: Translated) -> io::Result<()> {
+fn print_refusal(rt: &impl Print, error: TranslateError) -> io::Result<()> {
     let mut line = [0u8; 64];
-    let n = refusal_line(answer.number(), answer.place(), &mut line);
+    let n = refusal_line(error.number(), error.place(), &mut line);
     rt.write_all(&line[..n])
 }
 
@@ -17,21 +17,18 @@ fn print_count(rt: &impl Print, count: usize) -> io::Result<()> {
     println!(rt; "count {count}")
 }
 
-fn show(rt: &impl Print, answer: Translated) -> io::Result<()> {
+fn show(rt: &impl Print, answer: Result<Translation, TranslateError>) -> io::Result<()> {
     match answer {
-        Translated::Done { count, end: _ } => print_count(rt, count),
-        Translated::Refused {
-            number: _,
-            place: _,
-        } => print_refusal(rt, answer),
-        Translated::Short { count } => {
-            print_refusal(rt, answer)?;
+        Ok(translation) => print_count(rt, translation.count),
+        Err(TranslateError::Short { count }) => {
+            print_refusal(rt, TranslateError::Short { count })?;
             print_count(rt, count)
         }
+        Err(error) => print_refusal(rt, error),
     }
 }
 
-fn translated(head: Head, plan: &[u8]) -> Translated {
+fn translated(head: Head, plan: &[u8]) -> Result<Translation, TranslateError> {
     let mut words = [0u16; MOST_WORDS];
     let mut ticks = [0u32; MOST_WORDS];
     translate(head, plan, &mut words, &mut ticks)
@@ -46,10 +43,8 @@ fn too_many() -> [u8; 133] {
     let mut plan = [1u8; 133];
     plan[1] = 0;
     plan[2] = 130;
-    let mut at: usize = 4;
-    while at < 133 {
-        plan[at] = 16;
-        at = at + 2;
+    for k in 0..65 {
+        plan[4 + 2 * k] = 16;
     }
     plan
 }

@@ -5,8 +5,9 @@
 ghost use Rattle.io.specs.Counts.{IsPrefixLen};
 
 use head::state::Head;
+use layout::writer::Writer;
 use report::refusal::put_refusal;
-use report::report::{LONGEST, Reported, report};
+use report::report::{LONGEST, report};
 use std::io;
 
 // A length as a count of the bytes of a text.
@@ -22,15 +23,16 @@ fn counted(length: usize, out: &[u8]) -> usize
 // Prints the report of a plan or its refusal, and answers the head then.
 fn show(rt: &impl Print, head: Head, plan: &[u8]) -> io::Result<Head> {
     let mut out = [0u8; LONGEST];
-    let reported = report(head, plan, &mut out);
-    match reported {
-        Reported::Done { head: last, length } => {
-            let n = counted(length, &out);
+    match report(head, plan, &mut out) {
+        Ok(reported) => {
+            let n = counted(reported.length, &out);
             rt.write_all(&out[..n])?;
-            Ok(last)
+            Ok(reported.head)
         }
-        Reported::Refused { number, place } => {
-            let length = put_refusal(&mut out, 0, number, place, plan);
+        Err(error) => {
+            let mut writer = Writer::new(&mut out);
+            put_refusal(&mut writer, error.number(), error.place(), plan);
+            let length = writer.len();
             let n = counted(length, &out);
             rt.write_all(&out[..n])?;
             Ok(head)

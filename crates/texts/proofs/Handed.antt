@@ -2,16 +2,16 @@
 -- Assumes nothing.
 use mathlib.Core.Path.{◌≡◌, sym, ◌∙◌}
 use mathlib.Core.Bool.{Bool, true, false, cond, not}
-use mathlib.Core.List.{List}
+use mathlib.Core.List.{List, ◌++◌}
 use Prim.Native.Nat.{ℕ, ◌≤◌, ◌<◌, ◌^◌}
 use borrow.Author.Tests.{lt-leb, le-leb, eq-eqb, not-true}
 use lib.Dec.{eqb}
-use lib.ListN.{length, take}
+use lib.ListN.{length, take, drop}
 use Rattle.head.specs.Row.{places}
 use Rattle.head.specs.declared.state.Head.{Head}
 use Rattle.schedule.specs.Translate.{most_words, translation_number, translation_place}
-use Rattle.layout.specs.Written.{Written, Front}
-use Rattle.layout.proofs.Writing.{written-front, front-text}
+use Rattle.layout.specs.Written.{Front}
+use Rattle.layout.proofs.Writing.{front-text}
 use Rattle.interface.specs.State.{well_formed}
 use Rattle.interface.specs.Plans.{packed}
 use Rattle.texts.specs.Texts.{has_room, text_after, counted_answer, room_answer, text_answer, is_put, number_for, place_for}
@@ -36,11 +36,9 @@ module _ (made old : List ℕ) where
     no-room-left = rw (lt-leb (length made) (length old) less)
 
   module _ (most : length made ≤ length old) where
-    pub room_after : {k : ℕ} {new : List ℕ} → Written old 0 made k new → new ≡ text_after (has_room made old) made old
+    pub room_after : {copy : List ℕ} → copy ≡ made → copy ++ drop (length made) old ≡ text_after (has_room made old) made old
     unfolding text_after
-    room_after w =
-        let f = written-front w most in
-        f.bytes ∙ rw (le-leb (length made) (length old) most, f.long)
+    room_after e = rw (le-leb (length made) (length old) most, e)
 
 -- what `hand_over_with` leaves in the state's array
 module _ (made old l : List ℕ) where

@@ -12,19 +12,19 @@ use mir.Val.{Fits}
 use Rattle.head.specs.Row.{places, state_of}
 use Rattle.head.specs.declared.state.Head.{Head}
 use Rattle.plan.specs.Stored.{byte_at}
-use Rattle.schedule.specs.Translate.{most_words, translate_of, translation_number, translation_place}
-use Rattle.schedule.specs.declared.Translated.{Translated}
+use Rattle.std.specs.Prelude.{Result, Ok, Err}
+use Rattle.schedule.specs.Translate.{most_words, translate_of, translation_number, translation_place, translate_error_number, translate_error_place}
+use Rattle.schedule.specs.declared.Translation.{Translation}
+use Rattle.schedule.specs.declared.TranslateError.{TranslateError}
 use Rattle.schedule.proofs.Numbered.{translation-number}
 use Rattle.layout.specs.Written.{Front}
-use Rattle.text.specs.Listing.{plan_text, listing_number, listing_place, listed_by, listed_of, listed_after}
-use Rattle.text.specs.declared.listing.Listed.{Listed}
+use Rattle.text.specs.Listing.{plan_text, listed_by, listed_of, listed_after}
 use Rattle.text.proofs.Fitting.{listing-fits}
 use Rattle.text.proofs.Printed.{listed-front}
 use Rattle.interface.specs.State.{well_formed}
 use Rattle.interface.specs.Plans.{packed}
 use Rattle.texts.specs.Texts.{has_room, text_after, room_answer, text_answer, is_put, number_for, place_for, listing_answer, listing_left}
-use Rattle.interface.proofs.Translation.{differ}
-use Rattle.texts.proofs.Refused.{translate-nonzero, translation-small, translate-fit}
+use Rattle.texts.proofs.Refused.{some-number, translation-small, translate-fit}
 use Rattle.texts.proofs.Handed.{well-number, well-place, ill-number, ill-place, front-room, front-count, front-small, front-answer, front-after, refused-answer, refused-left}
 
 -- what a listing that is done says: no refusal, and the text at the front of the array m
@@ -33,21 +33,20 @@ record Made (s : Head) (bs : List ℕ) (n : ℕ) (m made : List ℕ) : Type 0 wh
   small : length (plan_text s bs) < 2 ^ 32
   front : Front m (plan_text s bs) n made
 
-module _ (s : Head) (bs : List ℕ) {r : Listed} (is : r ≡ listed_of s bs) where
-  module _ {n : ℕ} (done : r ≡ Listed.Done n) (m : List ℕ) {made : List ℕ} (after : made ≡ listed_after s bs m) where
+module _ (s : Head) (bs : List ℕ) where
+  module _ {n : ℕ} (is : Ok n ≡ listed_of s bs) (m : List ℕ) {made : List ℕ} (after : made ≡ listed_after s bs m) where
     made-is : Made s bs n m made
     unfolding listed_of listed_by
-    made-is = go (translate_of s bs most_words most_words) refl (sym done ∙ is)
+    made-is = go (translate_of s bs most_words most_words) refl is
       where
-        go : (t : Translated) → translate_of s bs most_words most_words ≡ t → Listed.Done n ≡ listed_by t (length (plan_text s bs)) → Made s bs n m made
-        go (Translated.Done k e) h same =
+        go : (t : Result Translation TranslateError) → translate_of s bs most_words most_words ≡ t → Ok n ≡ listed_by t (length (plan_text s bs)) → Made s bs n m made
+        go (Ok k) h same =
             record {
               none = sym (translation-number s bs most_words most_words) ∙ rw h;
               small = omega (arith, listing-fits s bs (translate-fit s bs h));
-              front = rw after (listed-front s bs (sym done ∙ is) m);
+              front = rw after (listed-front s bs is m);
             }
-        go (Translated.Refused k p) h same = differ (cc same)
-        go (Translated.Short k) h same = differ (cc same)
+        go (Err f) h same = absurd (cc)
 
     pub listed-room : n ≤ length made
     listed-room = front-room made-is.front
@@ -71,32 +70,26 @@ module _ (s : Head) (bs : List ℕ) {r : Listed} (is : r ≡ listed_of s bs) whe
       unfolding listing_left
       listed-left e = rw (← loaded) (front-after made-is.front none old e)
 
-  module _ {n p : ℕ} (refusal : r ≡ Listed.Refused n p) where
-    pub unlisted-small : listing_place r ≡ translation_place s bs → ((k : ℕ) → Fits w8 (byte_at bs k)) → p < 2 ^ 32
-    unlisted-small place bytes = let e : p ≡ translation_place s bs = rw refusal at place in rw e (translation-small s bs bytes)
+  module _ (e : TranslateError) {n : ℕ} (number_made : n ≡ translate_error_number e) {p : ℕ} (place_made : p ≡ translate_error_place e) where
+    pub unlisted-small : translate_error_place e ≡ translation_place s bs → ((k : ℕ) → Fits w8 (byte_at bs k)) → p < 2 ^ 32
+    unlisted-small place bytes = rw (place_made, place) (translation-small s bs bytes)
 
-    module _ (number : listing_number r ≡ translation_number s bs most_words most_words) (l : List ℕ) (long : length l ≡ places) (loaded : s ≡ state_of l) (old : List ℕ) where
+    module _ (number : translate_error_number e ≡ translation_number s bs most_words most_words) (l : List ℕ) (long : length l ≡ places) (loaded : s ≡ state_of l) (old : List ℕ) where
       number_is : n ≡ number_for l s bs
-      number_is = rw (well-number l long s bs, ← number, refusal)
+      number_is = rw (well-number l long s bs, ← number, number_made)
 
       some : eqb (number_for l s bs) 0 ≡ false
-      unfolding listed_of listed_by
-      some = rw (← number_is) (go (translate_of s bs most_words most_words) refl (sym refusal ∙ is))
-        where
-          go : (t : Translated) → translate_of s bs most_words most_words ≡ t → Listed.Refused n p ≡ listed_by t (length (plan_text s bs)) → eqb n 0 ≡ false
-          go (Translated.Done k e) h same = differ (cc same)
-          go (Translated.Refused k q) h same = let e : k ≡ n = cc same in rw e at (translate-nonzero s bs k q h)
-          go (Translated.Short k) h same = let e : 10 ≡ n = cc same in rw (← e)
+      some = rw (← number_is, number_made) (some-number e)
 
       pub unlisted-left : old ≡ listing_left l bs old
       unfolding listing_left
       unlisted-left = rw (← loaded) (refused-left (number_for l s bs) some (plan_text s bs) old)
 
-      pub unlisted-answer : listing_place r ≡ translation_place s bs → {x : ℕ} → x ≡ packed n 0 p → x ≡ listing_answer l bs old
+      pub unlisted-answer : translate_error_place e ≡ translation_place s bs → {x : ℕ} → x ≡ packed n 0 p → x ≡ listing_answer l bs old
       unfolding listing_answer
-      unlisted-answer place e =
-          let place_is : p ≡ place_for l s bs = rw (well-place l long s bs, ← place, refusal) in
-          rw (← loaded) (refused-answer (number_for l s bs) some (plan_text s bs) old (place_for l s bs) (e ∙ rw (← number_is, ← place_is)))
+      unlisted-answer place is =
+          let place_is : p ≡ place_for l s bs = rw (well-place l long s bs, ← place, place_made) in
+          rw (← loaded) (refused-answer (number_for l s bs) some (plan_text s bs) old (place_for l s bs) (is ∙ rw (← number_is, ← place_is)))
 
 -- an array that is no state: i is what `well_formed` answered
 module _ (l bs old : List ℕ) {i : Bool} (is : i ≡ well_formed l) (bad : not i ≡ true) where

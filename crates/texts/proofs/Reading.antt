@@ -11,39 +11,38 @@ use lib.ListN.{length, take}
 use Rattle.timed.specs.List.{is_list}
 use Rattle.layout.specs.Written.{Written, Front}
 use Rattle.layout.proofs.Writing.{written-front, front-text}
-use Rattle.head.specs.List.{list_answer_number}
 use Rattle.interface.specs.Plans.{packed}
 use Rattle.import.specs.Read.{import_of, with_room, import_into, import_number, import_after, words_in, ticks_in}
-use Rattle.import.specs.declared.read.Import.{Import}
-use Rattle.import.specs.declared.read.Import.TheVariants.{Done, Refused, Short}
+use Rattle.std.specs.Prelude.{Result, Ok, Err}
+use Rattle.import.specs.declared.reasons.ImportError.{ImportError}
+use Rattle.import.specs.declared.reasons.ImportError.TheVariants.{Refused, Short}
 use Rattle.import.proofs.Lists.{import-list}
 use Rattle.import.proofs.Places.{import-place, import-not-short}
 use Rattle.inspection.specs.Counts.{findings}
-use Rattle.inspection.specs.Inspection.{counts_of, inspection_text, inspected_of, inspection_after}
-use Rattle.inspection.specs.declared.counts.Counts.{Counts}
-use Rattle.inspection.specs.declared.inspection.Inspected.{Inspected}
-use Rattle.inspection.specs.declared.inspection.Inspected.TheVariants as inspected
+use Rattle.inspection.specs.Inspection.{counts_of, inspection, inspection_text, inspected_of, inspection_after, inspect_error_number, inspected_number}
+use Rattle.inspection.specs.declared.inspection.Inspection.{Inspection}
+use Rattle.inspection.specs.declared.inspection.InspectError.{InspectError}
+use Rattle.inspection.specs.declared.inspection.InspectError.TheVariants.{NoList}
 use Rattle.inspection.proofs.Counting.{findings-few}
 use Rattle.inspection.proofs.Fitting.{inspection-fits}
 use Rattle.imported.specs.Printed.{refusal_text}
 use Rattle.imported.proofs.Printing.{inspected-done, refusal-few}
-use Rattle.interface.proofs.Translation.{differ}
 use Rattle.texts.specs.Texts.{has_room, text_after, counted_answer}
 use Rattle.texts.specs.Lists.{read_place, read_answer, words_left, ticks_left, inspection_answer, inspection_left, is_list_refusal, list_refusal_length, list_refusal_left}
 use Rattle.texts.proofs.Wording.{handed-length, handed-left}
 
 -- the place of an answer is small
-room-place : (text : List ℕ) (a b : ℕ) (r : Import) → import_of text ≡ r → read_place (with_room r a b) < 2 ^ 32
+room-place : (text : List ℕ) (a b : ℕ) (r : Result ℕ ImportError) → import_of text ≡ r → read_place (with_room r a b) < 2 ^ 32
 unfolding with_room read_place
-room-place text a b (Done n) e = go (leb n a && leb n b)
+room-place text a b (Ok n) e = go (leb n a && leb n b)
   where
-    go : (z : Bool) → read_place (cond z (Done n) (Short n)) < 2 ^ 32
+    go : (z : Bool) → read_place (cond z (Ok n) (Err (Short n))) < 2 ^ 32
     go true = omega (arith, (import-list text e).1.1)
     go false = omega (arith, (import-list text e).1.1)
-room-place text a b (Refused n l) e = omega (arith, import-place text e)
-room-place text a b (Short n) e = absurd (import-not-short text e)
+room-place text a b (Err (Refused r l)) e = omega (arith, import-place text e)
+room-place text a b (Err (Short n)) e = absurd (import-not-short text e)
 
-module _ (text ws ts : List ℕ) {r : Import} (is : r ≡ import_into text (length ws) (length ts)) where
+module _ (text ws ts : List ℕ) {r : Result ℕ ImportError} (is : r ≡ import_into text (length ws) (length ts)) where
   pub read_small : read_place r < 2 ^ 32
   unfolding import_into
   read_small = rw is (room-place text (length ws) (length ts) (import_of text) refl)
@@ -60,89 +59,66 @@ module _ (text ws ts : List ℕ) {r : Import} (is : r ≡ import_into text (leng
   unfolding ticks_left
   ticks-left e = rw is at e
 
--- the number of each answer of reading
-pub done-number : (n : ℕ) {r : Import} → r ≡ Done n → {x : ℕ} → x ≡ packed 0 0 n → x ≡ packed (import_number r) 0 (read_place r)
-unfolding read_place
-done-number n e is = rw e is
-
-pub refused-number : (n l : ℕ) {r : Import} → r ≡ Refused n l → {x : ℕ} → x ≡ packed n 0 l → x ≡ packed (import_number r) 0 (read_place r)
-unfolding read_place
-refused-number n l e is = rw e is
-
-pub short-number : (n : ℕ) {r : Import} → r ≡ Short n → {x : ℕ} → x ≡ packed 10 0 n → x ≡ packed (import_number r) 0 (read_place r)
-unfolding read_place
-short-number n e is = rw e is
-
-pub done-place : (n : ℕ) {r : Import} → r ≡ Done n → read_place r < 2 ^ 32 → n < 2 ^ 32
-unfolding read_place
-done-place n e h = rw e at h
-
-pub refused-place : (n l : ℕ) {r : Import} → r ≡ Refused n l → read_place r < 2 ^ 32 → l < 2 ^ 32
-unfolding read_place
-refused-place n l e h = rw e at h
-
-pub short-place : (n : ℕ) {r : Import} → r ≡ Short n → read_place r < 2 ^ 32 → n < 2 ^ 32
-unfolding read_place
-short-place n e h = rw e at h
-
 -- an inspection: m is the array in which it is made
-module _ (ws ts m : List ℕ) (whole : length m ≡ 262144) {a : Inspected} (answer : a ≡ inspected_of ws ts (length m))
-    {made : List ℕ} (after : made ≡ inspection_after a (inspection_text ws ts) m) where
-  module _ {n : ℕ} {c : Counts} (done : a ≡ inspected.Done n c) where
+module _ (ws ts m : List ℕ) where
+  module _ {i : Inspection} (answer : Ok i ≡ inspected_of ws ts (length m)) (whole : length m ≡ 262144)
+      {made : List ℕ} (after : made ≡ inspection_after (Ok i) (inspection_text ws ts) m) where
     fits : is_list ws ts ≡ true
     unfolding inspected_of
-    fits = go (is_list ws ts) refl (sym done ∙ answer)
+    fits = go (is_list ws ts) refl answer
       where
         go : (z : Bool) → is_list ws ts ≡ z
-            → inspected.Done n c ≡ cond (is_list ws ts) (inspected.Done (min (length (inspection_text ws ts)) (length m)) (counts_of ws ts)) inspected.Refused
-            → is_list ws ts ≡ true
+            → Ok i ≡ cond z (Ok (inspection (min (length (inspection_text ws ts)) (length m)) (counts_of ws ts))) (Err NoList) → is_list ws ts ≡ true
         go true e is = e
-        go false e is = differ (cc (rw e at is))
+        go false e is = absurd (cc)
 
-    counts : c ≡ counts_of ws ts
+    counts : i.counts ≡ counts_of ws ts
     unfolding inspected_of
     counts =
-        let is : inspected.Done n c ≡ inspected.Done (min (length (inspection_text ws ts)) (length m)) (counts_of ws ts) = sym done ∙ answer ∙ rw fits in
-        cc
+        let is : Ok i ≡ Ok (inspection (min (length (inspection_text ws ts)) (length m)) (counts_of ws ts)) = answer ∙ rw fits in
+        let same : i ≡ inspection (min (length (inspection_text ws ts)) (length m)) (counts_of ws ts) = cc in
+        ap (λ (x : Inspection). x.counts) same
 
-    front : Front m (inspection_text ws ts) n made
-    front = inspected-done ws ts fits m whole answer after done
+    front : Front m (inspection_text ws ts) i.length made
+    front = inspected-done ws ts fits m answer whole after
 
-    pub inspected-room : n ≤ length made
+    pub inspected-room : i.length ≤ length made
     inspected-room = front.counts.0
 
-    pub inspected-count : n ≡ length (take n made)
+    pub inspected-count : i.length ≡ length (take i.length made)
     inspected-count = front.counts.1
 
-    pub inspected-small : length (take n made) < 2 ^ 32
+    pub inspected-small : length (take i.length made) < 2 ^ 32
     inspected-small = rw (front-text front) (omega (arith, inspection-fits ws ts fits))
 
-    pub findings-small : {f : ℕ} → f ≡ findings c → f < 2 ^ 16
+    pub findings-small : {f : ℕ} → f ≡ findings i.counts → f < 2 ^ 16
     findings-small is = omega (arith, is, ap findings counts, findings-few ws ts fits)
 
     module _ (old : List ℕ) where
-      pub inspected-answer : {f : ℕ} → f ≡ findings c → {x : ℕ} → x ≡ counted_answer f (take n made) old → x ≡ inspection_answer ws ts old
+      pub inspected-answer : {f : ℕ} → f ≡ findings i.counts → {x : ℕ} → x ≡ counted_answer f (take i.length made) old → x ≡ inspection_answer ws ts old
       unfolding inspection_answer
       inspected-answer is e = rw fits (e ∙ rw (is, counts, front-text front))
 
-      pub inspected-left : {new : List ℕ} → new ≡ text_after (has_room (take n made) old) (take n made) old → new ≡ inspection_left ws ts old
+      pub inspected-left : {new : List ℕ} → new ≡ text_after (has_room (take i.length made) old) (take i.length made) old → new ≡ inspection_left ws ts old
       unfolding inspection_left
       inspected-left e = rw fits (e ∙ rw (front-text front))
 
-  module _ (refused : a ≡ inspected.Refused) (old : List ℕ) where
+  module _ {f : InspectError} (refused : Err f ≡ inspected_of ws ts (length m)) (old : List ℕ) where
     no-list : is_list ws ts ≡ false
     unfolding inspected_of
-    no-list = go (is_list ws ts) refl (sym refused ∙ answer)
+    no-list = go (is_list ws ts) refl refused
       where
         go : (z : Bool) → is_list ws ts ≡ z
-            → inspected.Refused ≡ cond (is_list ws ts) (inspected.Done (min (length (inspection_text ws ts)) (length m)) (counts_of ws ts)) inspected.Refused
-            → is_list ws ts ≡ false
-        go true e is = differ (cc (rw e at is))
+            → Err f ≡ cond z (Ok (inspection (min (length (inspection_text ws ts)) (length m)) (counts_of ws ts))) (Err NoList) → is_list ws ts ≡ false
+        go true e is = absurd (cc)
         go false e is = e
 
-    pub uninspected-answer : {x : ℕ} → x ≡ packed 31 0 0 → x ≡ inspection_answer ws ts old
-    unfolding inspection_answer list_answer_number
-    uninspected-answer e = rw no-list e
+    pub uninspected-answer : {n : ℕ} → n ≡ inspect_error_number f → {x : ℕ} → x ≡ packed n 0 0 → x ≡ inspection_answer ws ts old
+    unfolding inspection_answer
+    uninspected-answer is e = rw no-list (go f is e)
+      where
+        go : (g : InspectError) {n : ℕ} → n ≡ inspect_error_number g → {x : ℕ} → x ≡ packed n 0 0 → x ≡ packed (inspected_number (Err NoList)) 0 0
+        go NoList is e = rw is at e
 
     pub uninspected-left : old ≡ inspection_left ws ts old
     unfolding inspection_left text_after

@@ -1,7 +1,7 @@
 -- The ways through `put_report` and the exported report: s is the head, bs the plan, m the array in which the report is made, old the
 -- caller's.
 -- Assumes nothing.
-use mathlib.Core.Path.{◌≡◌, refl, sym, ◌∙◌}
+use mathlib.Core.Path.{◌≡◌, refl, sym, ap, ◌∙◌}
 use mathlib.Core.Bool.{Bool, true, false, cond, not}
 use mathlib.Core.List.{List}
 use Prim.Native.Nat.{ℕ, ◌≤◌, ◌<◌, ◌^◌, min}
@@ -16,20 +16,22 @@ use Rattle.head.specs.declared.state.Head.{Head}
 use Rattle.plan.specs.Stored.{Plan, orders, refused, byte_at, plan_of, orders_in}
 use Rattle.plan.proofs.Accepted.{accepted-few}
 use Rattle.schedule.specs.Schedule.{Schedule}
-use Rattle.schedule.specs.Translate.{most_words, schedule_of, translate_of, translation_number, translation_place}
-use Rattle.schedule.specs.declared.Translated.{Translated}
+use Rattle.std.specs.Prelude.{Result, Ok, Err}
+use Rattle.schedule.specs.Translate.{most_words, schedule_of, translate_of, translation_number, translation_place, translate_error_number, translate_error_place}
+use Rattle.schedule.specs.declared.Translation.{Translation}
+use Rattle.schedule.specs.declared.TranslateError.{TranslateError}
+use Rattle.run.specs.Run.{head_after}
 use Rattle.schedule.proofs.Numbered.{translation-number}
 use Rattle.run.specs.Compare.{compared_by, compared_of}
 use Rattle.layout.specs.Written.{Front}
 use Rattle.layout.proofs.Writing.{written-front}
-use Rattle.report.specs.Report.{rested, report_text, reported_by, reported_of, report_after, reported_number, reported_place}
+use Rattle.report.specs.Report.{rested, report_text, reported_by, reported_of, report_after}
 use Rattle.report.specs.declared.report.Reported.{Reported}
 use Rattle.report.proofs.Fitting.{report-fits}
 use Rattle.interface.specs.State.{well_formed}
 use Rattle.interface.specs.Plans.{packed}
 use Rattle.texts.specs.Texts.{has_room, text_after, room_answer, text_answer, is_put, place_for, plan_end, report_number, report_answer, report_left, report_state}
-use Rattle.interface.proofs.Translation.{differ}
-use Rattle.texts.proofs.Refused.{translate-nonzero, translation-small}
+use Rattle.texts.proofs.Refused.{some-number, translation-small}
 use Rattle.texts.proofs.Handed.{well-number, well-place, ill-number, ill-place, front-room, front-count, front-small, front-answer, front-after, front-state, refused-answer, refused-left, refused-state}
 
 few : (bs : List ℕ) → length (orders_in (plan_of bs)) ≤ 64
@@ -45,43 +47,37 @@ record Made (s : Head) (bs m : List ℕ) (h : Head) (n : ℕ) (made : List ℕ) 
   last : h ≡ plan_end (rested s) bs
   front : Front m (report_text s bs) n made
 
-pub unreported-small : (s : Head) (bs : List ℕ) {r : Reported} {n p : ℕ} → r ≡ Reported.Refused n p → reported_place r ≡ translation_place (rested s) bs
-    → ((k : ℕ) → Fits w8 (byte_at bs k)) → p < 2 ^ 32
-unreported-small s bs {p = p} refusal place bytes =
-    let e : p ≡ translation_place (rested s) bs = rw refusal at place in
-    rw e (translation-small (rested s) bs bytes)
-
-module _ (s : Head) (bs m : List ℕ) {r : Reported} (is : r ≡ reported_of s bs (length m)) where
+module _ (s : Head) (bs m : List ℕ) where
   abbrev sch : Schedule
   sch = schedule_of (rested s) (plan_of bs)
 
-  module _ {h : Head} {n : ℕ} (done : r ≡ Reported.Done h n) {made : List ℕ} (after : made ≡ report_after r (report_text s bs) m) (whole : length m ≡ 65536) where
-    made-is : Made s bs m h n made
+  module _ {o : Reported} (is : Ok o ≡ reported_of s bs (length m)) {made : List ℕ} (after : made ≡ report_after (Ok o) (report_text s bs) m) (whole : length m ≡ 65536) where
+    made-is : Made s bs m o.head o.length made
     unfolding reported_of reported_by report_after compared_of compared_by plan_end
-    made-is = go (translate_of (rested s) bs most_words most_words) refl (sym done ∙ is)
+    made-is = go (translate_of (rested s) bs most_words most_words) refl is
       where
-        go : (t : Translated) → translate_of (rested s) bs most_words most_words ≡ t
-            → Reported.Done h n ≡ reported_by (report_text s bs) (length m) (compared_by (rested s) (plan_of bs) sch t) → Made s bs m h n made
-        go (Translated.Done k e) a same =
-            let place : n ≡ min (length (report_text s bs)) (length m) = cc same in
+        go : (t : Result Translation TranslateError) → translate_of (rested s) bs most_words most_words ≡ t
+            → Ok o ≡ reported_by (report_text s bs) (length m) (compared_by (rested s) (plan_of bs) sch t) → Made s bs m o.head o.length made
+        go (Ok k) a same =
+            let is : o ≡ record { head = head_after sch.end 0 sch.list (rested s); length = min (length (report_text s bs)) (length m) } = cc same in
+            let place : o.length ≡ min (length (report_text s bs)) (length m) = ap (λ (x : Reported). x.length) is in
             record {
               none = sym (translation-number (rested s) bs most_words most_words) ∙ rw a;
-              last = cc same;
+              last = ap (λ (x : Reported). x.head) is;
               front =
                   written-front
-                  (record { place = place ∙ rw (zero-add (length (report_text s bs))); bytes = after ∙ rw done })
+                  (record { place = place ∙ rw (zero-add (length (report_text s bs))); bytes = after })
                   (omega (arith, report-fits s bs (few bs)));
             }
-        go (Translated.Refused k p) a same = differ (cc same)
-        go (Translated.Short k) a same = differ (cc same)
+        go (Err f) a same = absurd (cc)
 
-    pub reported-room : n ≤ length made
+    pub reported-room : o.length ≤ length made
     reported-room = front-room made-is.front
 
-    pub reported-count : n ≡ length (take n made)
+    pub reported-count : o.length ≡ length (take o.length made)
     reported-count = front-count made-is.front
 
-    pub reported-small : length (take n made) < 2 ^ 32
+    pub reported-small : length (take o.length made) < 2 ^ 32
     reported-small = front-small made-is.front (omega (arith, report-fits s bs (few bs)))
 
     -- the array l holds the head
@@ -91,33 +87,30 @@ module _ (s : Head) (bs m : List ℕ) {r : Reported} (is : r ≡ reported_of s b
       none = rw (← loaded) (well-number l long (rested s) bs ∙ made-is.none)
 
       -- what was handed over: the answer, the text and the state
-      pub reported-answer : {x : ℕ} → x ≡ room_answer (take n made) old → x ≡ report_answer l bs old
+      pub reported-answer : {x : ℕ} → x ≡ room_answer (take o.length made) old → x ≡ report_answer l bs old
       unfolding report_answer
       reported-answer e = rw (← loaded) (front-answer made-is.front none old (place_for l (rested s) bs) e)
 
-      pub reported-left : {new : List ℕ} → new ≡ text_after (has_room (take n made) old) (take n made) old → new ≡ report_left l bs old
+      pub reported-left : {new : List ℕ} → new ≡ text_after (has_room (take o.length made) old) (take o.length made) old → new ≡ report_left l bs old
       unfolding report_left
       reported-left e = rw (← loaded) (front-after made-is.front none old e)
 
-      pub reported-state : {left : List ℕ} → left ≡ cond (has_room (take n made) old) (numbers_of h) l → left ≡ report_state l bs old
+      pub reported-state : {left : List ℕ} → left ≡ cond (has_room (take o.length made) old) (numbers_of o.head) l → left ≡ report_state l bs old
       unfolding report_state
-      reported-state e = rw (← loaded, ← made-is.last) (front-state made-is.front none old (numbers_of h) l e)
+      reported-state e = rw (← loaded, ← made-is.last) (front-state made-is.front none old (numbers_of o.head) l e)
 
-  module _ {n p : ℕ} (refusal : r ≡ Reported.Refused n p) where
-    module _ (number : reported_number r ≡ translation_number (rested s) bs most_words most_words) (l : List ℕ) (long : length l ≡ places) (loaded : s ≡ state_of l) (old : List ℕ) where
+module _ (s : Head) (bs : List ℕ) where
+  module _ (e : TranslateError) {n : ℕ} (number_made : n ≡ translate_error_number e) {p : ℕ} (place_made : p ≡ translate_error_place e) where
+    pub unreported-small : translate_error_place e ≡ translation_place (rested s) bs → ((k : ℕ) → Fits w8 (byte_at bs k)) → p < 2 ^ 32
+    unreported-small place bytes = rw (place_made, place) (translation-small (rested s) bs bytes)
+
+    module _ (number : translate_error_number e ≡ translation_number (rested s) bs most_words most_words) (l : List ℕ) (long : length l ≡ places) (loaded : s ≡ state_of l) (old : List ℕ) where
       number_is : n ≡ report_number l bs
       unfolding report_number
-      number_is = rw (← loaded, well-number l long (rested s) bs, ← number, refusal)
+      number_is = rw (← loaded, well-number l long (rested s) bs, ← number, number_made)
 
       some : eqb (report_number l bs) 0 ≡ false
-      unfolding reported_of reported_by compared_of compared_by
-      some = rw (← number_is) (go (translate_of (rested s) bs most_words most_words) refl (sym refusal ∙ is))
-        where
-          go : (t : Translated) → translate_of (rested s) bs most_words most_words ≡ t
-              → Reported.Refused n p ≡ reported_by (report_text s bs) (length m) (compared_by (rested s) (plan_of bs) sch t) → eqb n 0 ≡ false
-          go (Translated.Done k e) a same = differ (cc same)
-          go (Translated.Refused k q) a same = let e : k ≡ n = cc same in rw e at (translate-nonzero (rested s) bs k q a)
-          go (Translated.Short k) a same = let e : 10 ≡ n = cc same in rw (← e)
+      some = rw (← number_is, number_made) (some-number e)
 
       pub unreported-left : old ≡ report_left l bs old
       unfolding report_left
@@ -127,11 +120,11 @@ module _ (s : Head) (bs m : List ℕ) {r : Reported} (is : r ≡ reported_of s b
       unfolding report_state
       unreported-state = refused-state (report_number l bs) some (report_text (state_of l) bs) old (numbers_of (plan_end (rested (state_of l)) bs)) l
 
-      pub unreported-answer : reported_place r ≡ translation_place (rested s) bs → {x : ℕ} → x ≡ packed n 0 p → x ≡ report_answer l bs old
+      pub unreported-answer : translate_error_place e ≡ translation_place (rested s) bs → {x : ℕ} → x ≡ packed n 0 p → x ≡ report_answer l bs old
       unfolding report_answer
-      unreported-answer place e =
-          let place_is : p ≡ place_for l (rested (state_of l)) bs = rw (← loaded, well-place l long (rested s) bs, ← place, refusal) in
-          refused-answer (report_number l bs) some (report_text (state_of l) bs) old (place_for l (rested (state_of l)) bs) (e ∙ rw (← number_is, ← place_is))
+      unreported-answer place is =
+          let place_is : p ≡ place_for l (rested (state_of l)) bs = rw (← loaded, well-place l long (rested s) bs, ← place, place_made) in
+          refused-answer (report_number l bs) some (report_text (state_of l) bs) old (place_for l (rested (state_of l)) bs) (is ∙ rw (← number_is, ← place_is))
 
 -- an array that is no state: i is what `well_formed` answered
 module _ (l bs old : List ℕ) {i : Bool} (is : i ≡ well_formed l) (bad : not i ≡ true) where

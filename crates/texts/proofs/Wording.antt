@@ -19,12 +19,8 @@ module _ (made old : List ℕ) where
   pub unworded-answer : length old < length made → 0 ≡ cond (has_room made old) (length made) 0
   unworded-answer less = rw (lt-leb (length made) (length old) less)
 
-  module _ (most : length made ≤ length old) {k : ℕ} {new : List ℕ} (put : Written old 0 made k new) where
-    pub worded-answer : k ≡ cond (has_room made old) (length made) 0
-    worded-answer = rw (le-leb (length made) (length old) most) (written-front put most).long
-
-    pub worded-small : length made < 2 ^ 32 → k < 2 ^ 32
-    worded-small small = omega (arith, (written-front put most).long)
+  pub worded-answer : length made ≤ length old → {k : ℕ} → k ≡ length made → k ≡ cond (has_room made old) (length made) 0
+  worded-answer most is = rw (le-leb (length made) (length old) most) is
 
 -- a text that was made at the front of an array, and is handed over
 module _ (text : List ℕ) {m : List ℕ} {n : ℕ} {made : List ℕ} (front : Front m text n made) (old : List ℕ) where

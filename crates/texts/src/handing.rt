@@ -2,21 +2,25 @@
 // has room too.
 ghost use Rattle.std.specs.Prelude.{◌≡◌, cond, ◌<◌, ◌^◌, length};
 ghost use Rattle.head.specs.Row.{places, numbers_of};
+ghost use Rattle.layout.specs.Written.{Written};
 ghost use Rattle.names.specs.Table.{table_text};
 ghost use Rattle.report.specs.Refusal.{refusal_text};
 ghost use Rattle.texts.specs.Texts.{has_room, text_after, counted_answer, room_answer, listing_answer, listing_left, report_answer, report_left, report_state};
 
-use crate::arrays::{load, packed, store};
+use crate::arrays::{load, store};
 use head::state::Head;
-use layout::bytes::put_bytes;
+use interface::answers::packed;
+use layout::writer::Writer;
 use names::table::upper_bytes;
 use report::refusal::put_refusal;
-use report::report::{Reported, report};
-use schedule::BUFFER_SHORT;
-use text::listing::{Listed, list_plan};
+use report::report::report;
+use text::listing::list_plan;
 
 // Room for every refusal in words.
 const MOST_WORDING: usize = 1024;
+
+// Document 01's number of a buffer without room.
+pub(crate) const BUFFER_SHORT: u8 = 10;
 
 // Hands over a text and a count; where there is no room for it, nothing is written.
 pub(crate) fn hand_over_counted(made: &[u8], text: &mut [u8], count: usize) -> u64
@@ -28,7 +32,7 @@ pub(crate) fn hand_over_counted(made: &[u8], text: &mut [u8], count: usize) -> u
     if text.len() < made.len() {
         return packed(BUFFER_SHORT, count, made.len());
     }
-    let _ = put_bytes(text, 0, made);
+    text[..made.len()].copy_from_slice(made);
     packed(0, count, made.len())
 }
 
@@ -47,10 +51,9 @@ pub(crate) fn put_listing(state: &[u16], plan: &[u8], text: &mut [u8]) -> u64
     ensures text_after { text.new ≡ listing_left state.now plan.now text.old }
 {
     let mut made = [0u8; text::listing::LONGEST];
-    let listed = list_plan(load(state), plan, &mut made);
-    match listed {
-        Listed::Done { length } => hand_over(&made[..length], text),
-        Listed::Refused { number, place } => packed(number, 0, place),
+    match list_plan(load(state), plan, &mut made) {
+        Ok(length) => hand_over(&made[..length], text),
+        Err(error) => packed(error.number(), 0, error.place()),
     }
 }
 
@@ -77,10 +80,9 @@ pub(crate) fn put_report(state: &mut [u16], plan: &[u8], text: &mut [u8]) -> u64
     ensures state_after { state.new ≡ report_state state.old plan.now text.old }
 {
     let mut made = [0u8; report::report::LONGEST];
-    let reported = report(load(state), plan, &mut made);
-    match reported {
-        Reported::Done { head, length } => hand_over_with(&made[..length], text, head, state),
-        Reported::Refused { number, place } => packed(number, 0, place),
+    match report(load(state), plan, &mut made) {
+        Ok(reported) => hand_over_with(&made[..reported.length], text, reported.head, state),
+        Err(error) => packed(error.number(), 0, error.place()),
     }
 }
 
@@ -93,7 +95,17 @@ pub(crate) fn hand_over_wording(made: &[u8], text: &mut [u8]) -> u32
     if text.len() < made.len() {
         return 0;
     }
-    put_bytes(text, 0, made) as u32
+    text[..made.len()].copy_from_slice(made);
+    made.len() as u32
+}
+
+// The words of a refusal, from the first byte on; the answer is their length.
+fn refusal_words(out: &mut [u8], number: u8, place: usize, plan: &[u8]) -> usize
+    ensures { Written out.old 0 (refusal_text number place plan.now) result out.new }
+{
+    let mut writer = Writer::new(out);
+    put_refusal(&mut writer, number, place, plan);
+    writer.len()
 }
 
 // A refusal in words; the answer is their length, 0 where there is no room for them.
@@ -102,7 +114,7 @@ pub(crate) fn put_wording(number: u8, place: usize, plan: &[u8], text: &mut [u8]
     ensures text_after { text.new ≡ text_after (has_room (refusal_text number place plan.now) text.old) (refusal_text number place plan.now) text.old }
 {
     let mut made = [0u8; MOST_WORDING];
-    let length = put_refusal(&mut made, 0, number, place, plan);
+    let length = refusal_words(&mut made, number, place, plan);
     hand_over_wording(&made[..length], text)
 }
 

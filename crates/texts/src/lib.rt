@@ -16,7 +16,9 @@ ghost use Rattle.texts.specs.Texts.{has_room, text_after, room_answer, listing_a
 
 use import::read::read_list;
 use interface::state::well_formed;
-use schedule::STATE_UNFIT;
+
+// Document 01's number of an array that holds no fit state.
+const STATE_UNFIT: u64 = 1;
 
 // Writes the listing of a stored plan for the head in this state.
 pub fn shabgozim_listing(state: &[u16], plan: &[u8], text: &mut [u8]) -> u64
@@ -24,7 +26,7 @@ pub fn shabgozim_listing(state: &[u16], plan: &[u8], text: &mut [u8]) -> u64
     ensures text_after { text.new ≡ listing_left state.now plan.now text.old }
 {
     if !well_formed(state) {
-        return STATE_UNFIT as u64;
+        return STATE_UNFIT;
     }
     handing::put_listing(state, plan, text)
 }
@@ -36,7 +38,7 @@ pub fn shabgozim_report(state: &mut [u16], plan: &[u8], text: &mut [u8]) -> u64
     ensures text_after { text.new ≡ report_left state.old plan.now text.old }
 {
     if !well_formed(state) {
-        return STATE_UNFIT as u64;
+        return STATE_UNFIT;
     }
     handing::put_report(state, plan, text)
 }

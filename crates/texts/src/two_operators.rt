@@ -1,19 +1,18 @@
 // The texts of two operators: two text lists merged, and request P6's refusals in words.
 ghost use Rattle.std.specs.Prelude.{◌≡◌, true};
+ghost use Rattle.layout.specs.Written.{Written};
 ghost use Rattle.merged.specs.Refusal.{refusal_text};
 ghost use Rattle.texts.specs.Texts.{words_length, words_left};
 ghost use Rattle.texts.specs.Operators.{merge_texts_answer, merge_texts_left, is_operator_refusal};
 
-use crate::arrays::packed;
 use crate::handing::{hand_over, hand_over_wording};
-use merged::printed::{LONGEST, MergedTexts, merge_texts};
+use interface::answers::packed;
+use layout::writer::Writer;
+use merged::printed::{LONGEST, MergeTextsError, merge_texts};
 use merged::refusal::put_refusal;
 
 // Room for every refusal in words.
 const MOST_WORDING: usize = 256;
-
-// The number of the same tick in both lists.
-const SAME_TICK: u8 = 53;
 
 // Reads two text lists, merges them, and writes the merge as text.
 pub fn shabgozim_merge_texts(ccd: &[u8], infrared: &[u8], text: &mut [u8]) -> u64
@@ -21,12 +20,22 @@ pub fn shabgozim_merge_texts(ccd: &[u8], infrared: &[u8], text: &mut [u8]) -> u6
     ensures text_after { text.new ≡ merge_texts_left ccd.now infrared.now text.old }
 {
     let mut made = [0u8; LONGEST];
-    let merged = merge_texts(ccd, infrared, &mut made);
-    match merged {
-        MergedTexts::Done { length } => hand_over(&made[..length], text),
-        MergedTexts::Unread { list, number, line } => packed(number, list as usize, line),
-        MergedTexts::SameTick => packed(SAME_TICK, 0, 0),
+    match merge_texts(ccd, infrared, &mut made) {
+        Ok(length) => hand_over(&made[..length], text),
+        Err(MergeTextsError::Unread { list, error }) => {
+            packed(error.number(), list as usize, error.line())
+        }
+        Err(MergeTextsError::SameTick) => packed(MergeTextsError::SameTick.number(), 0, 0),
     }
+}
+
+// The words of a refusal, from the first byte on; the answer is their length.
+fn refusal_words(out: &mut [u8], number: u8) -> usize
+    ensures { Written out.old 0 (refusal_text number) result out.new }
+{
+    let mut writer = Writer::new(out);
+    put_refusal(&mut writer, number);
+    writer.len()
 }
 
 fn put_words(number: u8, text: &mut [u8]) -> u32
@@ -34,7 +43,7 @@ fn put_words(number: u8, text: &mut [u8]) -> u32
     ensures text_after { text.new ≡ words_left true (refusal_text number) text.old }
 {
     let mut made = [0u8; MOST_WORDING];
-    let length = put_refusal(&mut made, 0, number);
+    let length = refusal_words(&mut made, number);
     hand_over_wording(&made[..length], text)
 }
 

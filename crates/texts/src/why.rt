@@ -1,6 +1,7 @@
 // An answer of `shabgozim_why` in words.
 ghost use Rattle.std.specs.Prelude.{◌≡◌, true};
 ghost use Rattle.explanation.specs.Explanation.{explanation_text};
+ghost use Rattle.layout.specs.Written.{Written};
 ghost use Rattle.texts.specs.Texts.{words_length, words_left};
 ghost use Rattle.texts.specs.Why.{unpacked_why, is_why};
 
@@ -8,6 +9,7 @@ use crate::handing::hand_over_wording;
 use diagnosis::Diagnosis;
 use explanation::put_explanation;
 use interface::why::{COVER_BIT, packed_why};
+use layout::writer::Writer;
 use words::kind_of;
 
 // Room for every line.
@@ -45,12 +47,21 @@ fn unpacked_why(answer: u32) -> Diagnosis
     Diagnosis::Taken
 }
 
+// The words of a line, from the first byte on; the answer is their length.
+fn line_words(out: &mut [u8], diagnosis: Diagnosis) -> usize
+    ensures { Written out.old 0 (explanation_text diagnosis) result out.new }
+{
+    let mut writer = Writer::new(out);
+    put_explanation(&mut writer, diagnosis);
+    writer.len()
+}
+
 fn put_line(diagnosis: Diagnosis, text: &mut [u8]) -> u32
     ensures value { result ≡ words_length true (explanation_text diagnosis) text.old }
     ensures text_after { text.new ≡ words_left true (explanation_text diagnosis) text.old }
 {
     let mut made = [0u8; MOST_LINE];
-    let length = put_explanation(&mut made, 0, diagnosis);
+    let length = line_words(&mut made, diagnosis);
     hand_over_wording(&made[..length], text)
 }
 

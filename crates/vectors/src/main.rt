@@ -9,8 +9,7 @@ use std::io;
 
 // The number of the head's answer; 0 for a word that is taken.
 fn answer(head: Head, word: u16) -> u64 {
-    let outcome = head.word(word).outcome;
-    outcome.number() as u64
+    u64::from(head.word(word).outcome.number())
 }
 
 fn print_line(rt: &impl Print, name: &str, number: u64) -> io::Result<()> {

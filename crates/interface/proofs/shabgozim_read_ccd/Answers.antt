@@ -9,8 +9,8 @@ returns-then-numbers-ne-CCD_NUMBERS c = search (rules, unfit-answer ccd-reader, 
 pub refused_number-requires : goal.refused_number-requires
 refused_number-requires c = search (rules, place ccd-reader)
 
-pub returns-in-Block : goal.returns-in-Block
-returns-in-Block c = search (rules, said-answer ccd-reader, said-left ccd-reader)
+pub returns-in-Ok : goal.returns-in-Ok
+returns-in-Ok c = search (rules, said-answer ccd-reader, said-left ccd-reader)
 
-pub returns-in-Refused : goal.returns-in-Refused
-returns-in-Refused c = search (rules, refused-answer ccd-reader, refused-left ccd-reader)
+pub returns-in-Err : goal.returns-in-Err
+returns-in-Err c = search (rules, refused-answer ccd-reader, refused-left ccd-reader)

@@ -9,8 +9,8 @@ returns-then-numbers-ne-IR_NUMBERS c = search (rules, unfit-answer ir-reader, un
 pub refused_number-requires : goal.refused_number-requires
 refused_number-requires c = search (rules, place ir-reader)
 
-pub returns-in-Block : goal.returns-in-Block
-returns-in-Block c = search (rules, said-answer ir-reader, said-left ir-reader)
+pub returns-in-Ok : goal.returns-in-Ok
+returns-in-Ok c = search (rules, said-answer ir-reader, said-left ir-reader)
 
-pub returns-in-Refused : goal.returns-in-Refused
-returns-in-Refused c = search (rules, refused-answer ir-reader, refused-left ir-reader)
+pub returns-in-Err : goal.returns-in-Err
+returns-in-Err c = search (rules, refused-answer ir-reader, refused-left ir-reader)

@@ -1,10 +1,10 @@
 -- `interface::answers::encoded_number` meets its contract.
-use Rattle.interface.proofs.Numbers.{made-number, no-word-number}
-use borrow.Author.Rules.{rules}
+use Rattle.std.proofs.Common.{◌∙◌, rules}
+use Rattle.interface.proofs.Numbers.{made-number, not-made-number}
 use Rattle.interface.proofs.answers.encoded_number.Goals as goal
 
-pub returns-in-Made : goal.returns-in-Made
-returns-in-Made c = search (rules, made-number)
+pub returns-in-Ok : goal.returns-in-Ok
+returns-in-Ok c = search (rules, made-number)
 
-pub returns-in-Refused : goal.returns-in-Refused
-returns-in-Refused c = search (rules, no-word-number)
+pub returns-in-Err : goal.returns-in-Err
+returns-in-Err c = not-made-number c.in-Err.is (c.from-in-Err.ensures ∙ c.number.ensures)

@@ -1,13 +1,11 @@
 -- `interface::pem_h::meaning_number` meets its contract.
-use Rattle.interface.proofs.PemH.{meaning-fits, answer-fits, meaning-packed}
-use borrow.Author.Rules.{rules}
+use Rattle.std.proofs.Common.{◌∙◌}
+use Rattle.interface.proofs.PemH.{meaning-found, meaning-refused}
 use Rattle.interface.proofs.pem_h.meaning_number.Goals as goal
 
-pub overflow_add-result : goal.overflow_add-result
-overflow_add-result c = search (rules, meaning-fits)
+pub returns-in-Ok : goal.returns-in-Ok
+returns-in-Ok c =
+    meaning-found c.in-Ok.is (c.from.ensures ∙ c.request.ensures.value) (c.from-in-Ok.ensures ∙ c.value.ensures)
 
-pub overflow_add-result-2 : goal.overflow_add-result-2
-overflow_add-result-2 c = search (rules, answer-fits)
-
-pub returns : goal.returns
-returns c = search (rules, meaning-packed)
+pub returns-in-Err : goal.returns-in-Err
+returns-in-Err c = meaning-refused c.in-Err.is (c.from-in-Err.ensures ∙ c.number.ensures)

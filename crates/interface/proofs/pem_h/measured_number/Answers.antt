@@ -1,7 +1,10 @@
 -- `interface::pem_h::measured_number` meets its contract.
-use Rattle.interface.proofs.PemH.{measured-packed}
-use borrow.Author.Rules.{rules}
+use Rattle.std.proofs.Common.{◌∙◌, rules}
+use Rattle.interface.proofs.PemH.{measured-found, measured-refused}
 use Rattle.interface.proofs.pem_h.measured_number.Goals as goal
 
-pub returns : goal.returns
-returns c = search (rules, measured-packed)
+pub returns-in-Ok : goal.returns-in-Ok
+returns-in-Ok c = search (rules, measured-found)
+
+pub returns-in-Err : goal.returns-in-Err
+returns-in-Err c = measured-refused c.in-Err.is (c.from.ensures ∙ c.number.ensures)

@@ -1,7 +1,10 @@
 -- `interface::pem_h::request_number` meets its contract.
-use Rattle.interface.proofs.PemH.{request-packed}
-use borrow.Author.Rules.{rules}
+use Rattle.std.proofs.Common.{◌∙◌, rules}
+use Rattle.interface.proofs.PemH.{request-made, request-refused}
 use Rattle.interface.proofs.pem_h.request_number.Goals as goal
 
-pub returns : goal.returns
-returns c = search (rules, request-packed)
+pub returns-in-Ok : goal.returns-in-Ok
+returns-in-Ok c = search (rules, request-made)
+
+pub returns-in-Err : goal.returns-in-Err
+returns-in-Err c = request-refused c.in-Err.is (c.from-in-Err.ensures ∙ c.number.ensures)

@@ -1,5 +1,7 @@
 -- `interface::readings::ccd_status_numbers` meets its contract.
+use Rattle.std.proofs.Common.{rules}
+use Rattle.bitfields.proofs.Flags.{flag-number}
 use Rattle.interface.proofs.readings.ccd_status_numbers.Goals as goal
 
 pub returns : goal.returns
-returns c = rw c.bit.ensures
+returns c = search (rules, flag-number)
