@@ -65,7 +65,7 @@ fn put_bounds(writer: &mut Writer<'_>, byte: u8)
     }
 }
 
-// Whether any word with this upper byte is allowed. A `for`, since `any_below` begins at the last word and `any` at the first.
+// Whether any word with this upper byte is allowed. A `for` and not `any`: its step is the equation that defines `any_below`.
 fn any_allowed(byte: u8) -> bool
     ensures { result ≡ any_below byte 256 }
 {

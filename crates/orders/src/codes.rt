@@ -51,7 +51,7 @@ pub fn is_known(code: u8) -> bool
     (VDETCOM <= code) & (code <= WAIT)
 }
 
-// The row of a code in the tables.
+// The place of a code's digit; what is no code has that of 0.
 #[tactic(auto, unfolding(crate::specs::Codes::place_of))]
 fn place_of(code: u8) -> usize
     ensures { result ≡ place_of code }

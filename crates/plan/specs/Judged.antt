@@ -18,7 +18,7 @@ fault_number CodeLength = 7
 fault_number FieldRange = 8
 fault_number TooMany = 9
 
--- The fault of a number of that table; `fault_number` gives the number back (law `fault_back`).
+-- The fault that has a number of that table (law `fault_of-number`). A plan is refused with no other number (law `plan_of-stated`).
 unfoldable pub fault_of : ℕ → Fault
 fault_of n =
     cond (eqb n 2) TooShort

@@ -10,6 +10,7 @@ use plan::log::{EXPOSURE, cover_row, lay, request_row, settings_row};
 
 // The two buffers and the number of acts are passed one by one, here and below: a struct that borrows both would have to say in each
 // contract what it gives back.
+
 // The row and the tick of the next act; answers the number of acts then.
 fn put_act(rows: &mut [u16], times: &mut [u32], acts: usize, tick: u32, row: [u16; 21]) -> usize
     requires { acts < length times.old }

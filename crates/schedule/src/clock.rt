@@ -15,7 +15,7 @@ use orders::order::Order;
 const COS_L_PLACE: u32 = 3;
 
 // The tick at which it stands, the ticks at which the mirror and the cover are at rest, and the settings that give the length of an
-// acquisition. These five are the parameters of head's `acquisition_ticks`; a struct of them here would still be taken apart for it.
+// acquisition. Five and not the whole `Settings`, since a clock is copied for each order and no other setting decides a length.
 #[derive(Clone, Copy)]
 pub struct Clock {
     pub now: u32,
