@@ -75,7 +75,7 @@ pub fn encoded_number(made: Result<u16, EncodeError>) -> u32
 }
 
 // The number in bits 0-7, a count in bits 8-23, a length or a place in bits 32-63.
-pub fn packed(number: u8, count: usize, last: usize) -> u64
+fn packed(number: u8, count: usize, last: usize) -> u64
     requires { (count < 2 ^ 16) × (last < 2 ^ 32) }
     ensures { result ≡ packed number count last }
 {

@@ -7,9 +7,8 @@ ghost use Rattle.names.specs.Table.{table_text};
 ghost use Rattle.report.specs.Refusal.{refusal_text};
 ghost use Rattle.texts.specs.Texts.{has_room, text_after, counted_answer, room_answer, listing_answer, listing_left, report_answer, report_left, report_state};
 
-use crate::arrays::{load, store};
+use crate::arrays::{load, packed, store};
 use head::state::Head;
-use interface::answers::packed;
 use layout::writer::Writer;
 use names::table::upper_bytes;
 use report::refusal::put_refusal;

@@ -7,11 +7,11 @@ ghost use Rattle.layout.specs.Written.{Written};
 ghost use Rattle.texts.specs.Texts.{has_room, text_after};
 ghost use Rattle.texts.specs.Lists.{read_place, inspection_answer, inspection_left};
 
+use crate::arrays::packed;
 use crate::handing::{BUFFER_SHORT, hand_over_counted, hand_over_wording};
 use import::reasons::ImportError;
 use imported::refusal::put_refusal;
 use inspection::inspection::{LONGEST, inspect};
-use interface::answers::packed;
 use layout::writer::Writer;
 
 // Room for every refusal in words.

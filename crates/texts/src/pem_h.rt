@@ -5,8 +5,8 @@ ghost use Rattle.picture.specs.Printed.{refusal_text};
 ghost use Rattle.texts.specs.Texts.{words_length, words_left};
 ghost use Rattle.texts.specs.PemH.{picture_answer, picture_left, is_pem_h_refusal};
 
+use crate::arrays::packed;
 use crate::handing::{hand_over, hand_over_wording};
-use interface::answers::packed;
 use layout::writer::Writer;
 use picture::printed::{LONGEST, picture};
 use picture::refusal::put_refusal;

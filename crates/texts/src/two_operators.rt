@@ -5,8 +5,8 @@ ghost use Rattle.merged.specs.Refusal.{refusal_text};
 ghost use Rattle.texts.specs.Texts.{words_length, words_left};
 ghost use Rattle.texts.specs.Operators.{merge_texts_answer, merge_texts_left, is_operator_refusal};
 
+use crate::arrays::packed;
 use crate::handing::{hand_over, hand_over_wording};
-use interface::answers::packed;
 use layout::writer::Writer;
 use merged::printed::{LONGEST, MergeTextsError, merge_texts};
 use merged::refusal::put_refusal;
