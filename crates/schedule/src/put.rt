@@ -1,5 +1,5 @@
 // The words of orders laid into two lists, each with its tick.
-ghost use Rattle.std.specs.Prelude.{◌≡◌, true, ◌+◌, ◌≤◌, length};
+ghost use Rattle.std.specs.Prelude.{◌≡◌, true, ◌+◌, ◌≤◌, length, take};
 ghost use Rattle.std.proofs.lemmas.List.Edits.{sets};
 ghost use Rattle.orders.specs.Codes.{fit};
 ghost use Rattle.orders.specs.Words.{words_of, items_of};
@@ -18,7 +18,29 @@ pub struct Placed {
     pub next: usize,
 }
 
-// The words of an order from a place on: the first at this tick, each other one tick later.
+// The first N words of a list from a place on: the first at this tick, each other one tick later. N is a constant, since a loop of a length that is
+// not known makes an order of a translation 60 instructions dearer.
+fn put_first<const N: usize>(
+    words: &mut [u16],
+    ticks: &mut [u32],
+    from: usize,
+    tick: u32,
+    list: [u16; 4],
+)
+    requires count_bound { N ≤ 4 }
+    requires tick_bound { tick + 2 ≤ latest }
+    requires count_in_bounds_1 { from + N ≤ length words.old }
+    requires count_in_bounds_2 { from + N ≤ length ticks.old }
+    ensures words_after { words.new ≡ sets words.old from (take N list) }
+    ensures ticks_after { ticks.new ≡ sets ticks.old from (up_from tick N) }
+{
+    for i in 0..N {
+        words[from + i] = list[i];
+        ticks[from + i] = tick + i as u32;
+    }
+}
+
+// The words of an order from a place on.
 fn put_words(words: &mut [u16], ticks: &mut [u32], from: usize, tick: u32, sent: Words)
     requires count_bound { sent.count ≤ 4 }
     requires tick_bound { tick + 2 ≤ latest }
@@ -27,11 +49,13 @@ fn put_words(words: &mut [u16], ticks: &mut [u32], from: usize, tick: u32, sent:
     ensures words_after { words.new ≡ sets words.old from (words_in sent) }
     ensures ticks_after { ticks.new ≡ sets ticks.old from (up_from tick sent.count) }
 {
-    let count = sent.count;
     let list = sent.list;
-    words[from..from + count].copy_from_slice(&list[..count]);
-    for i in 0..count {
-        ticks[from + i] = tick + i as u32;
+    match sent.count {
+        0 => {}
+        1 => put_first::<1>(words, ticks, from, tick, list),
+        2 => put_first::<2>(words, ticks, from, tick, list),
+        3 => put_first::<3>(words, ticks, from, tick, list),
+        _ => put_first::<4>(words, ticks, from, tick, list),
     }
 }
 
