@@ -1,6 +1,6 @@
 -- The ticks of a list of entries: each at its entry's place, and rising where each entry and the next are.
 -- Assumes nothing.
-use mathlib.Core.Path.{◌≡◌, refl}
+use mathlib.Core.Path.{◌≡◌, refl, ap}
 use mathlib.Core.Bool.{Bool, true, false, ◌&&◌}
 use mathlib.Core.List.{List, [], ◌∷◌}
 use Prim.Native.Nat.{ℕ, zero, suc, ◌+◌, ◌<◌}
@@ -12,6 +12,20 @@ use Rattle.std.specs.List.{IsAllAdjacentAnswer}
 use Rattle.words.proofs.Tests.{and_right}
 use Rattle.timed.specs.List.{rising}
 use Rattle.merge.specs.Merge.{tick_in, ticks_in}
+use Rattle.merge.specs.ByPlaces.{tick_at}
+
+-- as many ticks as entries
+pub ticks-long : (l : List ℕ) → length (ticks_in l) ≡ length l
+unfolding ticks_in
+ticks-long [] = refl
+ticks-long (e ∷ l) = ap suc (ticks-long l)
+
+-- each at its entry's place
+pub tick-at : (l : List ℕ) (i : ℕ) → get_or (ticks_in l) i 0 ≡ tick_at l i
+unfolding ticks_in
+tick-at [] i = refl
+tick-at (e ∷ l) zero = refl
+tick-at (e ∷ l) (suc i) = tick-at l i
 
 -- the entries at two places one after another rise
 abbrev RiseAt : List ℕ → ℕ → ℕ → Bool → Type 0

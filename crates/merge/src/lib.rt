@@ -31,7 +31,7 @@ pub fn merging(ccd: &[u64], infrared: &[u64], room: usize) -> Result<Parts, Merg
     ensures value { result ≡ merging_of ccd.now infrared.now room }
     ensures result_value { merging_number result ≡ merge_number ccd.now infrared.now room }
 {
-    if !rises(ccd) | !rises(infrared) {
+    if !rises(ccd) || !rises(infrared) {
         return Err(MergeError::NotRising);
     }
     let Walked { parts, same } = walk(ccd, infrared);
