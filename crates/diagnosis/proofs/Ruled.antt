@@ -50,7 +50,7 @@ module _ (s : Head) (w : ℕ) where
   outcome-number (outcome.Ignored Range) = refl
   outcome-number (outcome.Ignored Turn) = refl
 
-  diagnosis-number : w < 65536 → diagnosis_number (diagnosis_of s w) ≡ stopped_number (answer_number s w)
+  pub diagnosis-number : w < 65536 → diagnosis_number (diagnosis_of s w) ≡ stopped_number (answer_number s w)
   unfolding diagnosis_of
   diagnosis-number h = rw (← word_number s w h) (outcome-number (answer_of s w).outcome)
 

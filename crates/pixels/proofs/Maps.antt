@@ -77,9 +77,9 @@ pub lighted-few : (map : List ℕ) → lighted map ≤ pixels
 lighted-few map = rw (← lighted-bits map) (many-le (is_set map) pixels)
 
 -- the number of what is measured is the one that the map gives
-measured-number : (map : List ℕ) (n : ℕ) → measured_number (measured map n) ≡ map_number map
+pub measured-number : (map : List ℕ) (n : ℕ) (r : Result ℕ MapError) → r ≡ measured map n → measured_number r ≡ map_number map
 unfolding measured map_number
-measured-number map n = go (eqb (length map) map_bytes) (spare_set map)
+measured-number map n r e = rw e (go (eqb (length map) map_bytes) (spare_set map))
   where
     go : (a b : Bool) → measured_number (cond a (cond b (Err SpareBit) (Ok n)) (Err Length)) ≡ cond (not a) 41 (cond b 42 0)
     go false b = refl
@@ -89,11 +89,11 @@ measured-number map n = go (eqb (length map) map_bytes) (spare_set map)
 module _ (map : List ℕ) where
   pub lighted-number : (r : Result ℕ MapError) → r ≡ lighted_of map → measured_number r ≡ map_number map
   unfolding lighted_of
-  lighted-number r e = rw e (measured-number map (lighted map))
+  lighted-number r e = measured-number map (lighted map) r e
 
   pub readout-number : (r : Result ℕ MapError) → r ≡ readout_of map → measured_number r ≡ map_number map
   unfolding readout_of
-  readout-number r e = rw e (measured-number map (readout_time (lighted map)))
+  readout-number r e = measured-number map (readout_time (lighted map)) r e
 
   -- the three ways through the count
   pub lighted-length : (length map ≡ map_bytes → ⊥) → Err Length ≡ lighted_of map
