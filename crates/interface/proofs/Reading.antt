@@ -1,18 +1,18 @@
 -- The ways through the exported readers: block is the block, old the array for the numbers as it was given.
 -- Assumes nothing.
 use mathlib.Core.Path.{◌≡◌, refl, sym, ◌∙◌, ap}
-use mathlib.Core.Bool.{Bool, true, false, cond}
+use mathlib.Core.Bool.{Bool, true, false, cond, not}
 use mathlib.Core.List.{List}
 use Prim.Native.Nat.{ℕ, suc, ◌+◌, ◌*◌, ◌<◌, ◌≤◌}
 use native.Mathlib.Omega.{arith}
-use borrow.Author.Tests.{eq-eqb, ne_eqb}
+use borrow.Author.Tests.{eq-eqb, ne_eqb, eqb-true}
 use lib.Dec.{eqb, lit<}
 use lib.ListN.{length, take}
 use Rattle.std.specs.Prelude.{Result, Ok, Err}
 use Rattle.std.specs.Result.{result_map_both}
 use Rattle.blocks.specs.Numbers.{refusal_number, refusal_place}
-use Rattle.blocks.specs.Ir.{ir_judged, ir_answer_of, ir_readings, ir_block, ir_read_of}
-use Rattle.blocks.specs.Ccd.{ccd_judged, ccd_rest_judged, ccd_answer_of, ccd_readings, ccd_block, ccd_read_of}
+use Rattle.blocks.specs.Ir.{ir_words, ir_judged, ir_answer_of, ir_readings, ir_block, ir_read_of}
+use Rattle.blocks.specs.Ccd.{ccd_words, ccd_judged, ccd_rest_judged, ccd_answer_of, ccd_readings, ccd_block, ccd_read_of}
 use Rattle.blocks.specs.declared.refusal.Refusal.{Refusal}
 use Rattle.blocks.specs.declared.refusal.Refusal.TheVariants.{Length}
 use Rattle.blocks.specs.declared.ir.IrBlock.{IrBlock}
@@ -31,6 +31,7 @@ pub record Reader {M R : Type 0} (made : List ℕ → M → R) (readings : R →
   readings-made : (l : List ℕ) (m : M) → readings (made l m) ≡ l
   meaning-made : (l : List ℕ) (m : M) → meaning (made l m) ≡ m
   read-of : (block : List ℕ) → read_of block ≡ result_map_both (made (take first block)) (λ (r : Refusal). r) (answer_of block)
+  first-there : (block : List ℕ) (m : M) → answer_of block ≡ Ok m → first ≤ length block
   read-for : (block old : List ℕ) → read_for block old ≡ cond (eqb (length old) count) (answer_of block) (Err Length)
   said-number : (m : M) → number (Ok m) ≡ 0
   refused-number : (r : Refusal) → number (Err r) ≡ refusal_answer r
@@ -43,6 +44,15 @@ either : {A : Type 0} (number : A → ℕ) (b : Bool) (x y : A) → number x < b
 either number true x y hx hy = hx
 either number false x y hx hy = hy
 
+-- what is read of n words has the first of them
+there : {M : Type 0} {n first : ℕ} (judged : Result M Refusal) (block : List ℕ) (m : M) → first ≤ n
+    → cond (not (eqb (length block) n)) (Err Length) judged ≡ Ok m → first ≤ length block
+there {M} {n} {first} judged block m few e = go (eqb (length block) n) refl e
+  where
+    go : (b : Bool) → eqb (length block) n ≡ b → cond (not b) (Err Length) judged ≡ Ok m → first ≤ length block
+    go true is e' = rw (eqb-true (length block) n is) few
+    go false is e' = absurd cc
+
 pub ir-reader :
     Reader ir_block (λ (b : IrBlock). b.readings) (λ (b : IrBlock). b.meaning) ir_readings ir_read_of ir_answer_of ir_numbers ir_read_for ir_answer ir_said_numbers ir_numbers_after
 unfolding ir_read_of ir_read_for ir_answer ir_numbers_after ir_answer_of ir_judged refusal_answer
@@ -51,6 +61,7 @@ ir-reader =
       readings-made = λ l m. refl;
       meaning-made = λ l m. refl;
       read-of = λ block. refl;
+      first-there = λ block m e. there {n = ir_words} {first = ir_readings} _ block m (omega arith) e;
       read-for = λ block old. refl;
       said-number = λ m. refl;
       refused-number = λ r. refl;
@@ -67,6 +78,7 @@ ccd-reader =
       readings-made = λ l m. refl;
       meaning-made = λ l m. refl;
       read-of = λ block. refl;
+      first-there = λ block m e. there {n = ccd_words} {first = ccd_readings} _ block m (omega arith) e;
       read-for = λ block old. refl;
       said-number = λ m. refl;
       refused-number = λ r. refl;
@@ -125,8 +137,10 @@ module _ {M R : Type 0} {made : List ℕ → M → R} {readings : R → List ℕ
       pub said-answer : 0 ≡ number (read_for block old)
       said-answer = rw said-for (sym (c.said-number told.0))
 
-      pub said-left : (l : List ℕ) → l ≡ said (readings b) (meaning b) → l ≡ after (read_for block old) block old
+      pub readings-there : first ≤ length block
+      readings-there = c.first-there block told.0 told.1
+
+      pub said-left : (l : List ℕ) → l ≡ said (take first block) (meaning b) → l ≡ after (read_for block old) block old
       said-left l an =
-          let rs : readings b ≡ take first block = ap readings (sym told.2) ∙ c.readings-made (take first block) told.0 in
           let ms : meaning b ≡ told.0 = ap meaning (sym told.2) ∙ c.meaning-made (take first block) told.0 in
-          rw (said-for, c.said-after told.0 block old) (rw (rs, ms) at an)
+          rw (said-for, c.said-after told.0 block old) (rw ms at an)

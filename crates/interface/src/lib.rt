@@ -201,7 +201,7 @@ pub fn shabgozim_read_ir(block: &[u16], numbers: &mut [u16]) -> u32
     }
     match read_ir(block) {
         Ok(read) => {
-            readings::put_ir(numbers, &read.readings, read.meaning);
+            readings::put_ir(numbers, &block[..IR_READINGS], read.meaning);
             0
         }
         Err(refusal) => answers::refused_number(refusal),
@@ -218,7 +218,7 @@ pub fn shabgozim_read_ccd(block: &[u16], numbers: &mut [u16]) -> u32
     }
     match read_ccd(block) {
         Ok(read) => {
-            readings::put_ccd(numbers, &read.readings, read.meaning);
+            readings::put_ccd(numbers, &block[..CCD_READINGS], read.meaning);
             0
         }
         Err(refusal) => answers::refused_number(refusal),

@@ -1,5 +1,7 @@
 // What crosses the interface for the two blocks: flags and bits in numbers, readings, and what a block says as numbers.
 ghost use Rattle.std.specs.Prelude.{◌≡◌, length};
+ghost use Rattle.blocks.specs.Ir.{ir_readings};
+ghost use Rattle.blocks.specs.Ccd.{ccd_readings};
 ghost use Rattle.interface.specs.Blocks.{flags_in, ir_bits_in, ccd_bits_in, ir_status_numbers, ir_flag_numbers, ccd_status_numbers, ccd_flag_numbers, ir_said_numbers, ccd_said_numbers, ir_numbers, ccd_numbers};
 
 use crate::state::put;
@@ -116,8 +118,9 @@ pub fn ccd_flag_numbers(flags: VisFlags) -> [u16; 5]
 }
 
 // Stores what an IR block says: its readings, the status, the flags.
-pub(crate) fn put_ir(numbers: &mut [u16], first: &[u16; 14], meaning: IrMeaning)
-    requires { length numbers.old ≡ ir_numbers }
+pub(crate) fn put_ir(numbers: &mut [u16], first: &[u16], meaning: IrMeaning)
+    requires numbers_long { length numbers.old ≡ ir_numbers }
+    requires first_long { length first.now ≡ ir_readings }
     ensures { numbers.new ≡ ir_said_numbers first.now meaning }
 {
     let flags = meaning.flags;
@@ -129,8 +132,9 @@ pub(crate) fn put_ir(numbers: &mut [u16], first: &[u16; 14], meaning: IrMeaning)
 }
 
 // Stores what a CCD block says: its readings, the status, the flags.
-pub(crate) fn put_ccd(numbers: &mut [u16], first: &[u16; 16], meaning: CcdMeaning)
-    requires { length numbers.old ≡ ccd_numbers }
+pub(crate) fn put_ccd(numbers: &mut [u16], first: &[u16], meaning: CcdMeaning)
+    requires numbers_long { length numbers.old ≡ ccd_numbers }
+    requires first_long { length first.now ≡ ccd_readings }
     ensures { numbers.new ≡ ccd_said_numbers first.now meaning }
 {
     let flags = meaning.flags;
