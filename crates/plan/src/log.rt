@@ -58,6 +58,11 @@ pub fn lay(rows: &mut [u16], k: usize, row: [u16; 21])
         return;
     }
     let from = ROW * k;
-    let count = ROW.min(rows.len() - from);
-    rows[from..from + count].copy_from_slice(&row[..count]);
+    // A loop: a `copy_from_slice` of a length that is not known would make the archive of the texts need `memcpy` from outside.
+    for i in 0..ROW {
+        if rows.len() <= from + i {
+            return;
+        }
+        rows[from + i] = row[i];
+    }
 }

@@ -7,6 +7,7 @@ pub mod Accepted
 pub mod OrderClocked
 pub mod OrderLaid
 pub mod Laying
+pub mod Copying
 pub mod OnePass
 pub mod Translating
 pub mod Numbered

@@ -3,14 +3,14 @@
 use mathlib.Core.Path.{◌≡◌, refl, sym, ap, ◌∙◌}
 use mathlib.Core.Bool.{Bool, true, false, cond, not, ◌&&◌, and-false, and-true}
 use mathlib.Core.List.{List, [], ◌∷◌, ◌++◌}
-use borrow.Rule.Slice.PartMut.{put_mid}
 use Rattle.std.specs.Prelude.{Result, Ok, Err}
 use Prim.Native.Nat.{ℕ, ◌+◌, ◌≤◌, ◌<◌}
 use native.Mathlib.Omega.{arith}
+use native.Mathlib.Nat.{zero-add}
 use borrow.Author.Tests.{le-leb, lt-leb, not-true, not-false}
 use lib.Dec.{leb}
 use lib.ListN.{length, take, drop, length-map, length-append}
-use lib.Seq.{sets, take_at}
+use lib.Seq.{sets, paste, take_at}
 use Rattle.head.specs.Range.{in_range}
 use Rattle.head.specs.Busy.{is_busy, at_rest}
 use Rattle.head.specs.declared.state.Head.{Head}
@@ -63,12 +63,11 @@ module _ (c : Clock) {t : Translation} where
   laid-last p is = ap (λ (u : Translation). u.end) (laid-is p is)
 
 -- the first of a list that was laid from its front on, copied
-pasted : (vs zeros own l : List ℕ) {n : ℕ} → length vs ≡ n → n ≤ length zeros → own ≡ sets zeros 0 vs
-    → put_mid 0 n l (take n own) ≡ vs ++ drop (length vs) l
+pasted : (vs zeros own l : List ℕ) {n : ℕ} → length vs ≡ n → n ≤ length zeros → own ≡ sets zeros 0 vs → paste l 0 own n ≡ vs ++ drop (length vs) l
 pasted vs zeros own l {n} long room is =
     let front = is ∙ sets-front vs zeros (omega arith) in
     let first : take n own ≡ vs = ap (take n) front ∙ take_at vs (drop (length vs) zeros) n long in
-    rw (first, long)
+    rw (first, long, zero-add n)
 
 abbrev pub Told : Head → List ℕ → List ℕ → List ℕ → Result Translation TranslateError → List ℕ → List ℕ → Type 0
 Told s bs W T r W' T' =
@@ -151,7 +150,7 @@ module _ (s : Head) (bs W T : List ℕ) {f : Bool} (is-fit : f ≡ fit s) where
         -- a list with the plan's values from its front on, copied
         copied : (values : Schedule → List ℕ) (own zeros old : List ℕ) → length (values (timed_by (clock_of s 0) (orders_in (plan_of bs)))) ≡ t.count
             → length zeros ≡ most_words → own ≡ sets zeros 0 (values (timed_by (clock_of s 0) (orders_in (plan_of bs))))
-            → put_mid 0 t.count old (take t.count own) ≡ values (schedule_of s (plan_of bs)) ++ drop (length (values (schedule_of s (plan_of bs)))) old
+            → paste old 0 own t.count ≡ values (schedule_of s (plan_of bs)) ++ drop (length (values (schedule_of s (plan_of bs)))) old
         copied values own zeros old n room is =
             pasted (values (timed_by (clock_of s 0) (orders_in (plan_of bs)))) zeros own old n (omega (arith, way-few)) is
             ∙ ap (λ (x : Schedule). values x ++ drop (length (values x)) old) (sym same)
@@ -164,16 +163,15 @@ module _ (s : Head) (bs W T : List ℕ) {f : Bool} (is-fit : f ≡ fit s) where
           pub way-done : t.count ≤ length T → (own times zeros naughts : List ℕ) → length zeros ≡ most_words → length naughts ≡ most_words
               → own ≡ words_laid (orders_from most_orders bs 3) (clock_of s 0) 0 zeros
               → times ≡ ticks_laid (orders_from most_orders bs 3) (clock_of s 0) 0 naughts
-              → {xs ys : List ℕ} → xs ≡ take t.count own → ys ≡ take t.count times
-              → Told s bs W T (Ok t) (put_mid 0 t.count W xs) (put_mid 0 t.count T ys)
+              → {xs ys : List ℕ} → xs ≡ paste W 0 own t.count → ys ≡ paste T 0 times t.count → Told s bs W T (Ok t) xs ys
           unfolding filled words_laid ticks_laid
           way-done fitting own times zeros naughts zl nl w v iw it =
               let counted = timed-long (clock_of s 0) (orders_in (plan_of bs)) ∙ sym count in
               let list = sym read ∙ plan in (
                 sym (answer ∙ rw (le-leb t.count (length W) room, le-leb t.count (length T) fitting, same, ← last)),
                 (
-                  rw iw (copied word_list own zeros W counted zl (rw list at w)),
-                  rw it (copied tick_list times naughts T (both (clock_of s 0) (orders_in (plan_of bs)) ∙ counted) nl (rw list at v)),
+                  iw ∙ copied word_list own zeros W counted zl (rw list at w),
+                  it ∙ copied tick_list times naughts T (both (clock_of s 0) (orders_in (plan_of bs)) ∙ counted) nl (rw list at v),
                 ),
               )
             where

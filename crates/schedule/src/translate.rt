@@ -1,5 +1,6 @@
 // A stored plan translated into timed words (document 01, "Plans").
 ghost use Rattle.std.specs.Prelude.{◌≡◌, ◌≤◌, length, OnOk};
+ghost use Rattle.std.proofs.Math.Seq.{paste};
 ghost use Rattle.plan.specs.Stored.{orders_from, most_orders, plan_of};
 ghost use Rattle.schedule.specs.Clock.{Near};
 ghost use Rattle.schedule.specs.Filled.{laid_of, words_laid, ticks_laid};
@@ -56,6 +57,21 @@ fn lay(
     })
 }
 
+// The first words and ticks into lent lists, in one loop: a `copy_from_slice` of each would make the archive need `memcpy` from outside.
+fn copy_out(words: &mut [u16], ticks: &mut [u32], sent: &[u16], times: &[u32], count: usize)
+    requires fact_1 { count ≤ length words.old }
+    requires fact_2 { count ≤ length ticks.old }
+    requires fact_3 { count ≤ length sent.now }
+    requires fact_4 { count ≤ length times.now }
+    ensures words_after { words.new ≡ paste words.old 0 sent.now count }
+    ensures ticks_after { ticks.new ≡ paste ticks.old 0 times.now count }
+{
+    for i in 0..count {
+        words[i] = sent[i];
+        ticks[i] = times[i];
+    }
+}
+
 // Whether a plan can be translated for a head: in range, idle, and nothing moving.
 pub fn is_fit(head: Head) -> bool
     ensures { result ≡ fit head }
@@ -95,7 +111,6 @@ pub fn translate(
     if ticks.len() < count {
         return Err(TranslateError::Short { count });
     }
-    words[..count].copy_from_slice(&own_words[..count]);
-    ticks[..count].copy_from_slice(&own_ticks[..count]);
+    copy_out(words, ticks, &own_words, &own_ticks, count);
     Ok(laid)
 }

@@ -1,9 +1,7 @@
 -- `schedule::translate::translate` meets its contract.
 use mathlib.Core.Bool.{not}
 use mathlib.Core.Path.{refl, ap, ◌∙◌}
-use Prim.Native.Nat.{ℕ}
 use native.Mathlib.Omega.{arith}
-use Rattle.std.proofs.lemmas.List.{length-take}
 use Rattle.std.specs.Prelude.{Err}
 use Rattle.std.proofs.lemmas.Result.{err_from_is_err_and}
 use Rattle.schedule.proofs.Translating.{way-unfit, way-near, way-header, way-refused, way-few, way-short-words, way-short-ticks, way-done}
@@ -50,30 +48,16 @@ returns-then-ticks-count c =
     let p = promised a.head a.plan.now a.words.now a.ticks.now (way-short-ticks a.head a.plan.now a.words.now a.ticks.now c.is_fit.ensures (ap not c.if-not-is_fit.false) c.in_default.ensures.value laid.value c.if-words-count.false c.if-ticks-count.true) in
     record { value = p.0; words_after = p.1.0; ticks_after = p.1.1.0; result_value = p.1.1.1.0; result_value_2 = p.1.1.1.1 }
 
-pub slice_bounds-own_words-end : goal.slice_bounds-own_words-end
-slice_bounds-own_words-end c =
+pub copy_out-requires : goal.copy_out-requires
+copy_out-requires c =
     let a = c.args in
     let laid = rw c.of.ensures at c.in_ok-laid.ensures in
     let few = way-few a.head a.plan.now a.words.now a.ticks.now c.is_fit.ensures (ap not c.if-not-is_fit.false) c.in_default.ensures.value laid.value in
-    omega arith
-
-pub slice_bounds-copy_from_slice-end-3 : goal.slice_bounds-copy_from_slice-end-3
-slice_bounds-copy_from_slice-end-3 c =
-    let a = c.args in
-    let laid = rw c.of.ensures at c.in_ok-laid.ensures in
-    let few = way-few a.head a.plan.now a.words.now a.ticks.now c.is_fit.ensures (ap not c.if-not-is_fit.false) c.in_default.ensures.value laid.value in
-    omega (arith, length-take {A = ℕ})
-
-pub copy_from_slice-requires : goal.copy_from_slice-requires
-copy_from_slice-requires c =
-    let a = c.args in
-    let laid = rw c.of.ensures at c.in_ok-laid.ensures in
-    let few = way-few a.head a.plan.now a.words.now a.ticks.now c.is_fit.ensures (ap not c.if-not-is_fit.false) c.in_default.ensures.value laid.value in
-    omega (arith, length-take {A = ℕ})
+    record { fact_1 = omega arith; fact_2 = omega arith; fact_3 = omega arith; fact_4 = omega arith }
 
 pub returns : goal.returns
 returns c =
     let a = c.args in
     let laid = rw c.of.ensures at c.in_ok-laid.ensures in
-    let p = promised a.head a.plan.now a.words.now a.ticks.now (way-done a.head a.plan.now a.words.now a.ticks.now c.is_fit.ensures (ap not c.if-not-is_fit.false) c.in_default.ensures.value laid.value c.if-words-count.false c.if-ticks-count.false _ _ _ _ refl refl laid.when_done laid.when_done_2 c.copy_from_slice.ensures.after c.copy_from_slice-2.ensures.after) in
+    let p = promised a.head a.plan.now a.words.now a.ticks.now (way-done a.head a.plan.now a.words.now a.ticks.now c.is_fit.ensures (ap not c.if-not-is_fit.false) c.in_default.ensures.value laid.value c.if-words-count.false c.if-ticks-count.false _ _ _ _ refl refl laid.when_done laid.when_done_2 c.copy_out.ensures.words_after c.copy_out.ensures.ticks_after) in
     record { value = p.0; words_after = p.1.0; ticks_after = p.1.1.0; result_value = p.1.1.1.0; result_value_2 = p.1.1.1.1 }
