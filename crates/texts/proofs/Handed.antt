@@ -1,16 +1,19 @@
 -- A text that was made at the front of an array m, and is handed over into another, old; l is the state's array.
 -- Assumes nothing.
-use mathlib.Core.Path.{◌≡◌, sym, ◌∙◌}
+use mathlib.Core.Path.{◌≡◌, refl, sym, ◌∙◌}
 use mathlib.Core.Bool.{Bool, true, false, cond, not}
-use mathlib.Core.List.{List, ◌++◌}
+use mathlib.Core.List.{List}
 use Prim.Native.Nat.{ℕ, ◌≤◌, ◌<◌, ◌^◌}
 use borrow.Author.Tests.{lt-leb, le-leb, eq-eqb, not-true}
 use lib.Dec.{eqb}
-use lib.ListN.{length, take, drop}
+use lib.ListN.{length, take}
 use Rattle.head.specs.Row.{places}
 use Rattle.head.specs.declared.state.Head.{Head}
 use Rattle.schedule.specs.Translate.{most_words, translation_number, translation_place}
+use Rattle.layout.specs.Adds.{Adds}
 use Rattle.layout.specs.Written.{Front}
+use Rattle.layout.specs.declared.writer.Writer.{Writer}
+use Rattle.layout.proofs.Adding.{adds_front}
 use Rattle.layout.proofs.Writing.{front-text}
 use Rattle.interface.specs.State.{well_formed}
 use Rattle.interface.specs.Plans.{packed}
@@ -36,9 +39,14 @@ module _ (made old : List ℕ) where
     no-room-left = rw (lt-leb (length made) (length old) less)
 
   module _ (most : length made ≤ length old) where
-    pub room_after : {copy : List ℕ} → copy ≡ made → copy ++ drop (length made) old ≡ text_after (has_room made old) made old
+    -- a writer writes the text in the bytes of g, which have it once the writer is gone
+    pub room_after : {w v : Writer} {g : ℕ} {new : List ℕ} → w.out.ghost_name ≡ g → w.out.now ≡ old → w.at ≡ 0 → Adds w v made
+        → (g ≡ v.out.ghost_name → new ≡ v.out.now)
+        → new ≡ text_after (has_room made old) made old
     unfolding text_after
-    room_after e = rw (le-leb (length made) (length old) most, e)
+    room_after lent bytes start h back =
+        let f = adds_front bytes start refl h most in
+        back (sym (h.lent ∙ lent)) ∙ f.bytes ∙ rw (le-leb (length made) (length old) most, f.long)
 
 -- what `hand_over_with` leaves in the state's array
 module _ (made old l : List ℕ) where

@@ -31,7 +31,8 @@ pub(crate) fn hand_over_counted(made: &[u8], text: &mut [u8], count: usize) -> u
     if text.len() < made.len() {
         return packed(BUFFER_SHORT, count, made.len());
     }
-    text[..made.len()].copy_from_slice(made);
+    let mut writer = Writer::new(text);
+    writer.put_bytes(made);
     packed(0, count, made.len())
 }
 
@@ -94,7 +95,8 @@ pub(crate) fn hand_over_wording(made: &[u8], text: &mut [u8]) -> u32
     if text.len() < made.len() {
         return 0;
     }
-    text[..made.len()].copy_from_slice(made);
+    let mut writer = Writer::new(text);
+    writer.put_bytes(made);
     made.len() as u32
 }
 
