@@ -201,6 +201,7 @@ pub fn shabgozim_read_ir(block: &[u16], numbers: &mut [u16]) -> u32
     }
     match read_ir(block) {
         Ok(read) => {
+            // The readings come from the block: in the answer a refusal would overlap them, so that the compiler moves them in pieces.
             readings::put_ir(numbers, &block[..IR_READINGS], read.meaning);
             0
         }
@@ -218,6 +219,7 @@ pub fn shabgozim_read_ccd(block: &[u16], numbers: &mut [u16]) -> u32
     }
     match read_ccd(block) {
         Ok(read) => {
+            // From the block, as there.
             readings::put_ccd(numbers, &block[..CCD_READINGS], read.meaning);
             0
         }
