@@ -219,7 +219,7 @@ pub fn shabgozim_read_ccd(block: &[u16], numbers: &mut [u16]) -> u32
     }
     match read_ccd(block) {
         Ok(read) => {
-            // From the block, as there.
+            // From the block, as the readings of an IR block are.
             readings::put_ccd(numbers, &block[..CCD_READINGS], read.meaning);
             0
         }
